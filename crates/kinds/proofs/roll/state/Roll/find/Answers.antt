@@ -1,0 +1,9 @@
+use mathlib.Core.Path.{sym, _∙_}
+use Rattle.kinds.proofs.RollSteps.{find-some, find-none}
+use Rattle.kinds.proofs.roll.state.Roll.find.Needs as need
+
+pub returns-in-Some : need.returns-in-Some
+returns-in-Some c = c .yes .ensures ∙ sym (find-some (c .args .self) (c .args .key) (c .in-Some .number) (c .in-Some .ensures tt))
+
+pub returns-in-None : need.returns-in-None
+returns-in-None c = c .no .ensures ∙ sym (find-none (c .args .self) (c .args .key) (c .in-None .ensures tt))

@@ -1,0 +1,10 @@
+pub mod Joins
+pub mod Operations
+pub mod Outcomes
+pub mod QueueRows
+pub mod Queues
+pub mod RollRows
+pub mod Rolls
+pub mod Rows
+pub mod ShortLists
+pub mod Tallies

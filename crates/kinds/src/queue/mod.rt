@@ -1,0 +1,10 @@
+// A queue: up to twelve entries, which join at the back and leave at the front.
+mod kind;
+mod methods;
+mod operation;
+mod state;
+
+pub use kind::QueueKind;
+pub use operation::EndMove;
+pub use operation::QueueOperation;
+pub use state::Queue;
