@@ -6,5 +6,8 @@ mod state;
 
 pub use kind::QueueKind;
 pub use operation::EndMove;
+pub use operation::FRONT;
+pub use operation::NEXT;
+pub use operation::PUT;
 pub use operation::QueueOperation;
 pub use state::Queue;

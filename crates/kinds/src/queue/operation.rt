@@ -3,11 +3,11 @@ ghost use mathlib.Core.Path.{_≡_};
 ghost use Rattle.kinds.specs.Queues.{queue-operation, in-range};
 use crate::operation::Operation;
 
-const FRONT: u32 = 12;
+pub const FRONT: u32 = 12;
 
-const PUT: u32 = 13;
+pub const PUT: u32 = 13;
 
-const NEXT: u32 = 14;
+pub const NEXT: u32 = 14;
 
 // FRONT tells the front entry, PUT adds one at the back, NEXT takes the front one out.
 #[derive(Clone, Copy)]

@@ -9,5 +9,7 @@ mod state;
 pub use entry::Entry;
 pub use entry::Former;
 pub use kind::RollKind;
+pub use operation::FIND;
+pub use operation::MARK;
 pub use operation::RollOperation;
 pub use state::Roll;

@@ -3,9 +3,9 @@ ghost use mathlib.Core.Path.{_≡_};
 ghost use Rattle.kinds.specs.Rolls.{roll-operation, roll-bound};
 use crate::operation::Operation;
 
-const FIND: u32 = 21;
+pub const FIND: u32 = 21;
 
-const MARK: u32 = 22;
+pub const MARK: u32 = 22;
 
 // FIND tells the number of a key, MARK sets it.
 #[derive(Clone, Copy)]

@@ -5,5 +5,8 @@ mod operation;
 mod state;
 
 pub use kind::TallyKind;
+pub use operation::ADD;
+pub use operation::SHOW;
+pub use operation::TAKE;
 pub use operation::TallyOperation;
 pub use state::Tally;

@@ -1,14 +1,13 @@
 // The operations that a tally knows.
 ghost use mathlib.Core.Path.{_≡_};
-ghost use Rattle.kinds.specs.Tallies.{tally-operation, tally-class};
-use crate::answer::Class;
+ghost use Rattle.kinds.specs.Tallies.{tally-operation};
 use crate::operation::Operation;
 
-const SHOW: u32 = 1;
+pub const SHOW: u32 = 1;
 
-const ADD: u32 = 2;
+pub const ADD: u32 = 2;
 
-const TAKE: u32 = 3;
+pub const TAKE: u32 = 3;
 
 // SHOW tells the value, ADD and TAKE change it by their number.
 #[derive(Clone, Copy)]

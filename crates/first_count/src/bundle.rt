@@ -1,0 +1,92 @@
+// The objects of the count, and what one counter enters from one bundle.
+use crate::enter::Entry;
+use kinds::either::Either;
+use kinds::either::Object;
+use kinds::operation::Operation;
+use kinds::queue::FRONT;
+use kinds::queue::NEXT;
+use kinds::queue::PUT;
+use kinds::queue::Queue;
+use kinds::roll::FIND;
+use kinds::roll::MARK;
+use kinds::roll::Roll;
+use kinds::tally::ADD;
+use kinds::tally::SHOW;
+use kinds::tally::TAKE;
+use kinds::tally::Tally;
+
+const FIRST: usize = 0;
+
+const SECOND: usize = 1;
+
+const DOUBTFUL: usize = 2;
+
+const VOTED: usize = 3;
+
+// Two tallies in hundredths of a vote, the queue of doubtful bundles and the roll of members who voted.
+pub fn opening() -> Option<[Object; 4]> {
+    let first = Tally::new(120_000)?;
+    let second = Tally::new(0)?;
+    Some([
+        Either::Left(first),
+        Either::Left(second),
+        Either::Right(Either::Left(Queue::new())),
+        Either::Right(Either::Right(Roll::new())),
+    ])
+}
+
+// An operation entered on an object.
+fn entered(object: usize, code: u32, first: u32, second: u32) -> Entry {
+    let operation = Operation {
+        code,
+        first,
+        second,
+    };
+    let struck = false;
+    Entry {
+        object,
+        operation,
+        struck,
+    }
+}
+
+// The same, struck right after.
+fn struck(object: usize, code: u32, first: u32, second: u32) -> Entry {
+    let operation = Operation {
+        code,
+        first,
+        second,
+    };
+    let struck = true;
+    Entry {
+        object,
+        operation,
+        struck,
+    }
+}
+
+// The bundle: votes credited and corrected, a correction that is refused, doubtful bundles put by and
+// taken up, members marked, two marks struck, and a word that the object does not know.
+pub fn bundle() -> [Entry; 19] {
+    [
+        entered(FIRST, ADD, 2_500, 0),
+        entered(SECOND, ADD, 1_900, 0),
+        entered(FIRST, TAKE, 100, 0),
+        entered(SECOND, ADD, 100, 0),
+        entered(SECOND, TAKE, 5_000, 0),
+        entered(SECOND, SHOW, 0, 0),
+        entered(DOUBTFUL, PUT, 17, 0),
+        entered(DOUBTFUL, PUT, 23, 0),
+        entered(DOUBTFUL, FRONT, 0, 0),
+        entered(DOUBTFUL, NEXT, 0, 0),
+        entered(VOTED, MARK, 118, 1),
+        entered(VOTED, MARK, 42, 1),
+        entered(VOTED, MARK, 118, 2),
+        entered(VOTED, FIND, 118, 0),
+        struck(VOTED, MARK, 77, 1),
+        entered(VOTED, FIND, 77, 0),
+        struck(VOTED, MARK, 42, 9),
+        entered(VOTED, FIND, 42, 0),
+        entered(DOUBTFUL, ADD, 50, 0),
+    ]
+}
