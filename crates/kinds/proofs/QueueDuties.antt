@@ -21,9 +21,9 @@ use Rattle.kinds.specs.declared.queue.state.Queue.{Queue}
 use Rattle.kinds.specs.declared.queue.operation.QueueOperation.{QueueOperation}
 use Rattle.kinds.specs.declared.queue.operation.QueueOperation.the-variants.{Front, Put, Next}
 use Rattle.kinds.specs.Operations.{is}
-use Rattle.kinds.specs.Outcomes.{turned, content-after, by-table}
+use Rattle.kinds.specs.Outcomes.{turned, left-by, by-table}
 use Rattle.kinds.specs.Operations.{ranged}
-use Rattle.kinds.specs.Queues.{entries, entries-after, entries-before, end-move, in-range, queue-class, queue-operation, queue-acts, queue-of}
+use Rattle.kinds.specs.Queues.{entries, entries-after, entries-before, end-move, in-range, queue-class, queue-operation, queue-of}
 use Rattle.kinds.specs.ShortLists.{room, all}
 use Rattle.kinds.proofs.QueueLaws.{queue-own, queue-held, queue-made, entries-length}
 use Rattle.kinds.proofs.Fitting.{fits-first}
@@ -103,7 +103,7 @@ operation-in-range o =
     (λ _. cond-both (is 13 1 o) (Some (Put (o .first))) _ in-range (λ e. fits-first 13 1 o e) (λ _. cond-both (is 14 0 o) (Some Next) None in-range (λ _. tt) (λ _. tt)))
 
 -- the entries after an operation are the table's
-pub acts-entries : (q : Queue) (o : Operation) (r : Outcome Queue) → r ≡ queue-acts q o → entries (r .next) ≡ content-after entries-after (entries q) (queue-operation o)
-acts-entries q o r e =
-    ap (λ (x : Outcome Queue). entries (x .next)) e ∙ tables.table-content queue-of entries queue-own entries-after q (queue-operation o)
-    (λ p f. after-made q p (rw f at (operation-in-range o)))
+pub after-entries : (q : Queue) (p : QueueOperation) (r : Outcome Queue) → in-range (Some p) → r ≡ left-by queue-of q (entries-after (entries q) p) → entries (r .next) ≡ entries-after (entries q) p .1
+after-entries q p r b e =
+    let made = after-made q p b in
+    ap (λ (x : Outcome Queue). entries (x .next)) e ∙ tables.left-content queue-of entries queue-own q (made .0) (entries-after (entries q) p) (made .1)

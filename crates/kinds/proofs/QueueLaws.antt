@@ -4,12 +4,13 @@ use mathlib.Core.Bool.{Bool, true, false, cond, not}
 use mathlib.Core.List.{List, [], _∷_, _++_}
 use Prim.Native.Nat.{ℕ, zero, suc, _+_, _-_, _≤_, _<_}
 use native.Mathlib.Omega.{arith}
+use lib.Dec.{leb}
 use lib.ListN.{length, take, drop, getD}
 use Rattle.std.specs.Options.{valueOr}
 use Rattle.std.specs.Holes.{inserted, removed}
 use Rattle.std.specs.declared.option.Option.{Option}
 use Rattle.std.specs.declared.option.Option.the-variants.{Some, None}
-use Rattle.std.proofs.shelf.Tests.{eqb-true, lt-ltb, le-ltb, lt-leb, and-left, and-right}
+use Rattle.std.proofs.shelf.Tests.{eqb-true, lt-ltb, le-ltb, lt-leb, leb-true, leb-false, and-left, and-right}
 use Rattle.std.proofs.shelf.Lists.{length-take, drop-all, append-nil}
 use Rattle.kinds.specs.declared.answer.Answer.{Answer}
 use Rattle.kinds.specs.declared.answer.Answer.the-variants.{Yes, No}
@@ -18,7 +19,7 @@ use Rattle.kinds.specs.declared.queue.state.Queue.{Queue}
 use Rattle.kinds.specs.Outcomes.{yes-to, no-to, turned, left-by, by-table}
 use Rattle.kinds.specs.QueueRows.{blank-number, is-queue}
 use Rattle.kinds.specs.Operations.{ranged}
-use Rattle.kinds.specs.Queues.{entries, entries-after, entries-before, end-move, in-range, queue-class, queue-operation, read-queue, queue-of}
+use Rattle.kinds.specs.Queues.{entries, front-of, entries-after, entries-before, end-move, in-range, queue-class, queue-operation, read-queue, queue-of}
 use Rattle.kinds.specs.ShortLists.{room, items, packed, all, holds}
 use Rattle.kinds.specs.declared.queue.operation.QueueOperation.{QueueOperation}
 use Rattle.kinds.specs.declared.queue.operation.QueueOperation.the-variants.{Front, Put, Next}
@@ -90,6 +91,15 @@ take-front (suc n) (p ∷ ps) d h k = refl
 pub front-entry : (q : Queue) (d : ℕ) → 0 < q .row .count → entries q ≡ getD (q .row .places) 0 d ∷ drop 1 (entries q)
 front-entry q d h = take-front (q .row .count) (q .row .places) d h (omega (arith, length-take (q .row .count) (q .row .places), entries-length q))
 
+-- what the front entry says of the entries
+pub front-some-is : (xs : List ℕ) (x : ℕ) → Some x ≡ front-of xs → xs ≡ x ∷ drop 1 xs
+front-some-is [] x e = absurd (let z : _≡_ {A = ℕ} 0 1 = cc in omega arith)
+front-some-is (y ∷ xs) x e = let same : y ≡ x = cc in ap (λ (z : ℕ). z ∷ xs) same
+
+pub front-none-is : (xs : List ℕ) → None ≡ front-of xs → xs ≡ []
+front-none-is [] e = refl
+front-none-is (y ∷ xs) e = absurd (let z : _≡_ {A = ℕ} 0 1 = cc in omega arith)
+
 -- the answers of FRONT, PUT and NEXT
 pub front-none : (q : Queue) → entries q ≡ [] → left-by queue-of q (entries-after (entries q) Front) ≡ no-to q
 front-none q e = ap (λ (es : List ℕ). left-by queue-of q (entries-after es Front)) e ∙ left-own q q No [] e
@@ -97,14 +107,14 @@ front-none q e = ap (λ (es : List ℕ). left-by queue-of q (entries-after es Fr
 pub front-some : (q : Queue) (x : ℕ) (xs : List ℕ) → entries q ≡ x ∷ xs → left-by queue-of q (entries-after (entries q) Front) ≡ yes-to x q
 front-some q x xs e = ap (λ (es : List ℕ). left-by queue-of q (entries-after es Front)) e ∙ left-own q q (Yes x) (x ∷ xs) e
 
-pub put-none : (q : Queue) (n : ℕ) → room ≤ q .row .count → left-by queue-of q (entries-after (entries q) (Put n)) ≡ no-to q
-put-none q n h = rw (le-ltb (length (entries q)) room (omega (arith, entries-length q))) (left-own q q No (entries q) refl)
+pub put-none : (q : Queue) (n : ℕ) → leb room (q .row .count) ≡ true → left-by queue-of q (entries-after (entries q) (Put n)) ≡ no-to q
+put-none q n h = rw (le-ltb (length (entries q)) room (omega (arith, entries-length q, leb-true room (q .row .count) h))) (left-own q q No (entries q) refl)
 
-pub put-some : (q p : Queue) (n : ℕ) → q .row .count < room → entries p ≡ inserted (entries q) (q .row .count) n → left-by queue-of q (entries-after (entries q) (Put n)) ≡ yes-to (q .row .count + 1) p
+pub put-some : (q p : Queue) (n : ℕ) → leb room (q .row .count) ≡ false → entries p ≡ inserted (entries q) (q .row .count) n → left-by queue-of q (entries-after (entries q) (Put n)) ≡ yes-to (q .row .count + 1) p
 put-some q p n h e =
     let k = entries-length q in
     let f : entries p ≡ entries q ++ n ∷ [] = e ∙ ap (λ (i : ℕ). inserted (entries q) i n) (sym k) ∙ inserted-end (entries q) n in
-    rw (lt-ltb (length (entries q)) room (omega arith)) (left-own q p (Yes (length (entries q) + 1)) (entries q ++ n ∷ []) f ∙ ap (λ (m : ℕ). yes-to (m + 1) p) k)
+    rw (lt-ltb (length (entries q)) room (omega (arith, leb-false room (q .row .count) h))) (left-own q p (Yes (length (entries q) + 1)) (entries q ++ n ∷ []) f ∙ ap (λ (m : ℕ). yes-to (m + 1) p) k)
 
 pub next-none : (q : Queue) → entries q ≡ [] → left-by queue-of q (entries-after (entries q) Next) ≡ no-to q
 next-none q e = ap (λ (es : List ℕ). left-by queue-of q (entries-after es Next)) e ∙ left-own q q No [] e
@@ -143,10 +153,10 @@ back-some q p h e = turned-into q p _ (e ∙ removed-end (entries q) (q .row .co
 pub front-refused : (q : Queue) (n : ℕ) → is-queue (packed 0 (n ∷ entries q)) ≡ false → q ≡ turned queue-of q (entries-before (entries q) (FrontLeft n))
 front-refused q n e = sym (ap (λ (o : Option Queue). valueOr o q) (unread (packed 0 (n ∷ entries q)) e))
 
-pub front-full : (q : Queue) (n : ℕ) → room ≤ q .row .count → q ≡ turned queue-of q (entries-before (entries q) (FrontLeft n))
-front-full q n h = front-refused q n (and-left _ _ (and-left _ _ (lt-leb (length (n ∷ entries q)) room (omega (arith, entries-length q)))))
+pub front-full : (q : Queue) (n : ℕ) → leb room (q .row .count) ≡ true → q ≡ turned queue-of q (entries-before (entries q) (FrontLeft n))
+front-full q n h = front-refused q n (and-left _ _ (and-left _ _ (lt-leb (length (n ∷ entries q)) room (omega (arith, entries-length q, leb-true room (q .row .count) h)))))
 
-pub front-above : (q : Queue) (n : ℕ) → ranged n ≡ false → q .row .count < room → q ≡ turned queue-of q (entries-before (entries q) (FrontLeft n))
-front-above q n e h =
-    let k : length (n ∷ entries q) ≤ room = omega (arith, entries-length q) in
+pub front-above : (q : Queue) (n : ℕ) → leb room (q .row .count) ≡ false → ranged n ≡ false → q ≡ turned queue-of q (entries-before (entries q) (FrontLeft n))
+front-above q n h e =
+    let k : length (n ∷ entries q) ≤ room = omega (arith, entries-length q, leb-false room (q .row .count) h) in
     front-refused q n (and-right _ _ (ap (all ranged) (packing.take-all-padded 0 room (n ∷ entries q) k) ∙ and-left (ranged n) _ e))

@@ -22,9 +22,9 @@ use Rattle.kinds.specs.declared.roll.operation.RollOperation.{RollOperation}
 use Rattle.kinds.specs.declared.roll.operation.RollOperation.the-variants.{Find, Mark}
 use Rattle.kinds.specs.declared.roll.state.Roll.{Roll}
 use Rattle.kinds.specs.Operations.{is, ranged}
-use Rattle.kinds.specs.Outcomes.{turned, content-after, by-table}
+use Rattle.kinds.specs.Outcomes.{turned, left-by, by-table}
 use Rattle.kinds.specs.RollRows.{rising}
-use Rattle.kinds.specs.Rolls.{entry, marks, found, marked, smaller, find-after, mark-after, marks-after, marks-before, put-back, former, roll-bound, roll-class, roll-operation, roll-acts, roll-of}
+use Rattle.kinds.specs.Rolls.{entry, marks, found, marked, smaller, find-after, mark-after, marks-after, marks-before, put-back, former, roll-bound, roll-class, roll-operation, roll-of}
 use Rattle.kinds.specs.ShortLists.{room}
 use Rattle.kinds.proofs.Fitting.{fits-first, fits-second}
 use Rattle.kinds.proofs.Rising
@@ -73,20 +73,19 @@ mark-restored k v es (Some old) f r = Rising.marked-back 0 k v old es r f
 mark-restored k v es None f r =
     ⊎-elim (λ t. rw t (Rising.without-back k v es f)) (λ t. rw t (Rising.without-absent k es f)) (cases-bool (ltb (length es) room))
 
--- an operation leaves the entries of a roll
-after-made : (r : Roll) (p : RollOperation) → roll-bound (Some p) → (u : Roll) × (marks u ≡ marks-after (marks r) p .1)
-after-made r (Find k) b = (r, sym (find-keeps (found k (marks r)) (marks r)))
-after-made r (Mark k v) b =
+-- a MARK leaves the entries of a roll
+mark-made : (r : Roll) (k v : ℕ) → ranged k ≡ true → ranged v ≡ true → (u : Roll) × (marks u ≡ marks-after (marks r) (Mark k v) .1)
+mark-made r k v rk rv =
     let es = marks r in
     let h = roll-held r in
-    roll-made (mark-after (found k es) k v es .1) (mark-few k v es (found k es) refl (h .2) (omega (arith, marks-length r, h .0))) (mark-rises k v es (found k es) (b .0) (b .1) (h .2))
+    roll-made (mark-after (found k es) k v es .1) (mark-few k v es (found k es) refl (h .2) (omega (arith, marks-length r, h .0))) (mark-rises k v es (found k es) rk rv (h .2))
 
 pub undo-restores : (r : Roll) (p : Option RollOperation) → roll-bound p → roll-class p ≡ Write → let u = by-table roll-of (marks-after (marks r)) r p .next in turned roll-of u (marks-before (marks u) (former (marks r) p)) ≡ r
 undo-restores r None b e = absurd (let z : _≡_ {A = ℕ} 0 1 = cc in omega arith)
 undo-restores r (Some (Find k)) b e = absurd (let z : _≡_ {A = ℕ} 0 1 = cc in omega arith)
 undo-restores r (Some (Mark k v)) b e =
     let es = marks r in
-    let made = after-made r (Mark k v) b in
+    let made = mark-made r k v (b .0) (b .1) in
     tables.undo-returns roll-of marks roll-own marks-before r (made .0) _ (former es (Some (Mark k v))) (made .1) (mark-restored k v es (found k es) refl (roll-held r .2))
 
 -- the operation that a code stands for is in range
@@ -95,8 +94,13 @@ operation-in-range o =
     cond-both (is 21 1 o) (Some (Find (o .first))) _ roll-bound (λ e. fits-first 21 1 o e)
     (λ _. cond-both (is 22 2 o) (Some (Mark (o .first) (o .second))) None roll-bound (λ e. (fits-first 22 2 o e, fits-second 22 2 o e)) (λ _. tt))
 
--- the entries after an operation are the table's
-pub acts-marks : (r : Roll) (o : Operation) (x : Outcome Roll) → x ≡ roll-acts r o → marks (x .next) ≡ content-after marks-after (marks r) (roll-operation o)
-acts-marks r o x e =
-    ap (λ (y : Outcome Roll). marks (y .next)) e ∙ tables.table-content roll-of marks roll-own marks-after r (roll-operation o)
-    (λ p f. after-made r p (rw f at (operation-in-range o)))
+-- FIND leaves the entries
+pub after-find : (r : Roll) (k : ℕ) (x : Outcome Roll) → x ≡ left-by roll-of r (marks-after (marks r) (Find k)) → marks (x .next) ≡ marks-after (marks r) (Find k) .1
+after-find r k x e =
+    ap (λ (y : Outcome Roll). marks (y .next)) e ∙ tables.left-content roll-of marks roll-own r r (marks-after (marks r) (Find k)) (sym (find-keeps (found k (marks r)) (marks r)))
+
+-- the entries after a MARK are the table's
+pub after-mark : (r : Roll) (k v : ℕ) (x : Outcome Roll) → ranged k ≡ true → ranged v ≡ true → x ≡ left-by roll-of r (marks-after (marks r) (Mark k v)) → marks (x .next) ≡ marks-after (marks r) (Mark k v) .1
+after-mark r k v x rk rv e =
+    let made = mark-made r k v rk rv in
+    ap (λ (y : Outcome Roll). marks (y .next)) e ∙ tables.left-content roll-of marks roll-own r (made .0) (marks-after (marks r) (Mark k v)) (made .1)

@@ -5,7 +5,7 @@ use mathlib.Core.Bool.{Bool, true, false, cond}
 use mathlib.Core.List.{List, [], _∷_}
 use Prim.Native.Nat.{ℕ, _+_, _≤_, _<_}
 use native.Mathlib.Omega.{arith}
-use lib.Dec.{ltb}
+use lib.Dec.{ltb, leb}
 use lib.ListN.{length, take, set, getD}
 use Rattle.std.specs.Holes.{inserted, removed}
 use Rattle.std.specs.declared.option.Option.{Option}
@@ -13,7 +13,7 @@ use Rattle.std.specs.declared.option.Option.the-variants.{Some, None}
 use Rattle.std.specs.declared.result.Result.{Result}
 use Rattle.std.specs.declared.result.Result.the-variants.{Ok, Err}
 use Rattle.std.proofs.shelf.Lists.{getD-take}
-use Rattle.std.proofs.shelf.Tests.{lt-ltb, le-ltb, ltb-false, cases-bool}
+use Rattle.std.proofs.shelf.Tests.{lt-ltb, le-ltb, ltb-false, leb-true, leb-false, cases-bool}
 use Rattle.std.proofs.shelf.Edits.{length-inserted}
 use Rattle.kinds.specs.declared.answer.Answer.{Answer}
 use Rattle.kinds.specs.declared.answer.Answer.the-variants.{Yes, No}
@@ -111,13 +111,13 @@ module _ (r : Roll) (k v at : ℕ) (e : Err at ≡ place-of k (marks r)) where
   pub in-rises : ranged k ≡ true → ranged v ≡ true → rising 0 (inserted (marks r) at (entry k v)) ≡ true
   in-rises rk rv = ap (rising 0) in-there ∙ Rising.marked-rises 0 k v (marks r) (omega arith) rk rv (roll-held r .2)
 
-  pub mark-absent : (q : Roll) → r .row .count < room → marks q ≡ inserted (marks r) at (entry k v) → left-by roll-of r (marks-after (marks r) (Mark k v)) ≡ yes-to 0 q
+  pub mark-absent : (q : Roll) → leb room (r .row .count) ≡ false → marks q ≡ inserted (marks r) at (entry k v) → left-by roll-of r (marks-after (marks r) (Mark k v)) ≡ yes-to 0 q
   mark-absent q h f =
-      ap (λ (o : Option ℕ). left-by roll-of r (mark-after o k v (marks r))) (absent .0) ∙ rw (lt-ltb (length (marks r)) room (omega (arith, marks-length r))) (left-own r q (Yes 0) (marked k v (marks r)) (f ∙ in-there))
+      ap (λ (o : Option ℕ). left-by roll-of r (mark-after o k v (marks r))) (absent .0) ∙ rw (lt-ltb (length (marks r)) room (omega (arith, marks-length r, leb-false room (r .row .count) h))) (left-own r q (Yes 0) (marked k v (marks r)) (f ∙ in-there))
 
-  pub mark-full : room ≤ r .row .count → left-by roll-of r (marks-after (marks r) (Mark k v)) ≡ no-to r
+  pub mark-full : leb room (r .row .count) ≡ true → left-by roll-of r (marks-after (marks r) (Mark k v)) ≡ no-to r
   mark-full h =
-      ap (λ (o : Option ℕ). left-by roll-of r (mark-after o k v (marks r))) (absent .0) ∙ rw (le-ltb (length (marks r)) room (omega (arith, marks-length r))) (left-own r r No (marks r) refl)
+      ap (λ (o : Option ℕ). left-by roll-of r (mark-after o k v (marks r))) (absent .0) ∙ rw (le-ltb (length (marks r)) room (omega (arith, marks-length r, leb-true room (r .row .count) h))) (left-own r r No (marks r) refl)
 
   pub out-absent : r ≡ turned roll-of r (without k (marks r))
   out-absent = turned-into r r (without k (marks r)) (sym (Rising.without-absent k (marks r) (absent .0)))

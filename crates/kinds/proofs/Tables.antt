@@ -5,7 +5,7 @@ use Rattle.std.specs.declared.option.Option.{Option}
 use Rattle.std.specs.declared.option.Option.the-variants.{Some, None}
 use Rattle.kinds.specs.declared.answer.Answer.{Answer}
 use Rattle.kinds.specs.declared.answer.Answer.the-variants.{No}
-use Rattle.kinds.specs.Outcomes.{turned, left-by, content-after, by-table}
+use Rattle.kinds.specs.Outcomes.{turned, left-by, by-table}
 
 module _ {S C : Type 0} (make : C → Option S) (content : S → C) (own : (s : S) → make (content s) ≡ Some s) where
   -- the content of a state makes that state
@@ -16,12 +16,9 @@ module _ {S C : Type 0} (make : C → Option S) (content : S → C) (own : (s : 
   pub left-own : (s t : S) (a : Answer) (c : C) → content t ≡ c → left-by make s (a, c) ≡ record { answer = a; next = t }
   left-own s t a c e = ap (λ (u : S). record { answer = a; next = u }) (turned-own s t c e)
 
-  -- where a state has the content that a table gives, the operation leaves a state with that content
-  pub table-content : {P : Type 0} (table : C → P → Answer × C) (s : S) (p : Option P) → ((k : P) → p ≡ Some k → (t : S) × (content t ≡ table (content s) k .1)) → content (by-table make (table (content s)) s p .next) ≡ content-after table (content s) p
-  table-content table s None made = refl
-  table-content table s (Some k) made =
-      let t = made k refl in
-      ap content (turned-own s (t .0) (table (content s) k .1) (t .1)) ∙ t .1
+  -- where a state has the content after an answer, that is the content of the state that is left
+  pub left-content : (s t : S) (q : Answer × C) → content t ≡ q .1 → content (left-by make s q .next) ≡ q .1
+  left-content s t q e = ap content (turned-own s t (q .1) e) ∙ e
 
   -- where a no leaves the content, it leaves the state
   pub no-leaves : {P : Type 0} (table : P → Answer × C) (s : S) (p : Option P) → ((k : P) → table k .0 ≡ No → table k .1 ≡ content s) → by-table make table s p .answer ≡ No → by-table make table s p .next ≡ s

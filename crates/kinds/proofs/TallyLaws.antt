@@ -11,13 +11,12 @@ use Rattle.kinds.specs.declared.answer.Answer.{Answer}
 use Rattle.kinds.specs.declared.answer.Answer.the-variants.{Yes, No}
 use Rattle.kinds.specs.declared.answer.Class.the-variants.{Read, Write}
 use Rattle.kinds.specs.declared.answer.Outcome.{Outcome}
-use Rattle.kinds.specs.declared.operation.Operation.{Operation}
 use Rattle.kinds.specs.declared.tally.state.Tally.{Tally}
 use Rattle.kinds.specs.declared.tally.operation.TallyOperation.{TallyOperation}
 use Rattle.kinds.specs.declared.tally.operation.TallyOperation.the-variants.{Show, Add, Take}
 use Rattle.kinds.specs.Operations.{largest, ranged}
-use Rattle.kinds.specs.Outcomes.{turned, yes-to, no-to, left-by, content-after, by-table}
-use Rattle.kinds.specs.Tallies.{tally-at, tally-acts, tally-operation, tally-class, value-after, amount, value-undone}
+use Rattle.kinds.specs.Outcomes.{turned, yes-to, no-to, left-by, by-table}
+use Rattle.kinds.specs.Tallies.{tally-at, tally-class, value-after, amount, value-undone}
 use Rattle.kinds.proofs.Checks.{checked-passes, checked-fails, checked-made}
 use Rattle.kinds.proofs.Tables as tables
 
@@ -82,7 +81,6 @@ pub accepted : (t u : Tally) (b : Bool) (v : ℕ) → b ≡ true → u .value �
 accepted t u b v e f = rw e (left-own t u (Yes v) v f)
 
 -- the value after an operation is the table's
-pub acts-value : (t : Tally) (o : Operation) (r : Outcome Tally) → r ≡ tally-acts t o → r .next .value ≡ content-after value-after (t .value) (tally-operation o)
-acts-value t o r e =
-    ap (λ (x : Outcome Tally). x .next .value) e ∙ tables.table-content tally-at (λ s. s .value) tally-at-own value-after t (tally-operation o)
-    (λ p _. (record { value = value-after (t .value) p .1; sound = after-ranged (t .value) p (t .sound) }, refl))
+pub after-value : (t : Tally) (p : TallyOperation) (r : Outcome Tally) → r ≡ left-by tally-at t (value-after (t .value) p) → r .next .value ≡ value-after (t .value) p .1
+after-value t p r e =
+    ap (λ (x : Outcome Tally). x .next .value) e ∙ tables.left-content tally-at (λ s. s .value) tally-at-own t (record { value = value-after (t .value) p .1; sound = after-ranged (t .value) p (t .sound) }) (value-after (t .value) p) refl

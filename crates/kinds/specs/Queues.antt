@@ -5,6 +5,7 @@
 -- | queue-uses      | how many numbers a code uses |
 -- | queue-class     | what an operation is to a queue |
 -- | entries         | the entries of a queue, from the front |
+-- | front-of        | the front entry |
 -- | entries-after   | what an operation answers, and the entries after it |
 -- | read-queue      | the queue of a row |
 -- | queue-of        | the queue of some entries |
@@ -62,6 +63,11 @@ queue-class (Some Next) = Write
 -- the entries of a queue, from the front
 abbrev pub entries : Queue → List ℕ
 entries q = items (q .row)
+
+-- the front entry, if there is one
+abbrev pub front-of : List ℕ → Option ℕ
+front-of [] = None
+front-of (x ∷ xs) = Some x
 
 -- what an operation answers, and the entries after it
 abbrev pub entries-after : List ℕ → QueueOperation → Answer × List ℕ

@@ -1,9 +1,16 @@
 // An operation: a code and two numbers.
 ghost use mathlib.Core.Path.{_≡_};
-ghost use Rattle.kinds.specs.Operations.{fits};
+ghost use Rattle.kinds.specs.Operations.{ranged, fits};
 
 // The largest number in operations and states.
 pub const LARGEST: u32 = 999_999_999;
+
+// Whether a number is at most the largest.
+pub(crate) fn in_range(number: u32) -> bool
+    ensures { λ r. ⌜ r ≡ ranged number ⌝ }
+{
+    number <= LARGEST
+}
 
 // Any code and any numbers: which of them a kind knows is for the kind to say.
 #[derive(Clone, Copy)]

@@ -9,7 +9,6 @@ use crate::answer::Class;
 use crate::answer::Outcome;
 use crate::kind::Kind;
 use crate::operation::Operation;
-use crate::short_list::PLACES;
 use crate::short_list::ShortList;
 
 pub impl Kind for Queue as QueueKind {
@@ -53,7 +52,7 @@ pub impl Kind for Queue as QueueKind {
 
     fn undo_record(self, operation: Operation) -> EndMove {
         match QueueOperation::read(operation) {
-            Some(QueueOperation::Put(_)) if self.row.count < PLACES => EndMove::BackJoined,
+            Some(QueueOperation::Put(_)) if !self.is_full() => EndMove::BackJoined,
             Some(QueueOperation::Next) => self.front_move(),
             _ => EndMove::Stayed,
         }

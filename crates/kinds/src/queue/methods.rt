@@ -3,19 +3,21 @@ ghost use mathlib.Core.Path.{_≡_};
 ghost use mathlib.Core.Bool.{true};
 ghost use mathlib.Core.List.{[]};
 ghost use Prim.Native.Nat.{_≤_, _<_};
+ghost use lib.Dec.{leb};
+ghost use Rattle.std.specs.Options.{Cases};
 ghost use Rattle.std.specs.Holes.{inserted, removed};
 ghost use Rattle.std.specs.declared.option.Option.the-variants.{Some};
 ghost use Rattle.kinds.specs.Outcomes.{turned, left-by};
 ghost use Rattle.kinds.specs.Operations.{ranged};
 ghost use Rattle.kinds.specs.QueueRows.{blank-number};
-ghost use Rattle.kinds.specs.Queues.{read-queue, queue-of, entries, entries-after, end-move, entries-before};
+ghost use Rattle.kinds.specs.Queues.{read-queue, queue-of, entries, front-of, entries-after, end-move, entries-before};
 ghost use Rattle.kinds.specs.ShortLists.{room, all};
 ghost use Rattle.kinds.specs.declared.queue.operation.EndMove.the-variants.{BackJoined, FrontLeft};
 ghost use Rattle.kinds.specs.declared.queue.operation.QueueOperation.the-variants.{Front, Put, Next};
 use super::operation::EndMove;
 use super::state::Queue;
 use crate::answer::Outcome;
-use crate::operation::LARGEST;
+use crate::operation::in_range;
 use crate::short_list::Blank;
 use crate::short_list::PLACES;
 use crate::short_list::ShortList;
@@ -35,7 +37,7 @@ fn all_ranged(numbers: &[u32]) -> bool
     ensures { λ r. ⌜ r ≡ all ranged (now (numbers .entry)) ⌝ }
 {
     for number in numbers {
-        if *number > LARGEST {
+        if !in_range(*number) {
             return false;
         }
     }
@@ -97,49 +99,68 @@ impl Queue {
         }
     }
 
-    // The front entry as an answer, if there is one.
-    pub(super) fn front(self) -> Outcome<Queue>
-        ensures { λ r. ⌜ r ≡ left-by queue-of self (entries-after (entries self) Front) ⌝ }
+    // Whether there are twelve entries.
+    pub(super) fn is_full(self) -> bool
+        ensures { λ r. ⌜ r ≡ leb room (self .row .count) ⌝ }
+    {
+        self.row.count >= PLACES
+    }
+
+    // The front entry, if there is one.
+    fn front_entry(self) -> Option<u32>
+        ensures value { λ r. ⌜ r ≡ front-of (entries self) ⌝ }
+        ensures bound { λ r. ⌜ Cases r (Unit {0}) (λ _. 0 < self .row .count) ⌝ }
     {
         if self.row.count == 0 {
-            return Outcome::no(self);
+            return None;
         }
         let places = self.row.places;
-        Outcome::yes(places[0], self)
+        Some(places[0])
+    }
+
+    // The front entry as an answer, if there is one.
+    pub(super) fn front(self) -> Outcome<Queue>
+        ensures outcome { λ r. ⌜ r ≡ left-by queue-of self (entries-after (entries self) Front) ⌝ }
+        ensures after { λ r. ⌜ entries (r .next) ≡ entries-after (entries self) Front .1 ⌝ }
+    {
+        match self.front_entry() {
+            Some(entry) => Outcome::yes(entry, self),
+            None => Outcome::no(self),
+        }
     }
 
     // One entry more at the back, unless there are twelve.
     pub(super) fn put(self, n: u32) -> Outcome<Queue>
         requires { ⌜ ranged n ≡ true ⌝ }
-        ensures { λ r. ⌜ r ≡ left-by queue-of self (entries-after (entries self) (Put n)) ⌝ }
+        ensures outcome { λ r. ⌜ r ≡ left-by queue-of self (entries-after (entries self) (Put n)) ⌝ }
+        ensures after { λ r. ⌜ entries (r .next) ≡ entries-after (entries self) (Put n) .1 ⌝ }
     {
-        let count = self.row.count;
-        if count >= PLACES {
+        if self.is_full() {
             return Outcome::no(self);
         }
+        let count = self.row.count;
         Outcome::yes(count as u32 + 1, self.with_entry(count, n))
     }
 
     // The front entry taken out, if there is one.
     pub(super) fn next(self) -> Outcome<Queue>
-        ensures { λ r. ⌜ r ≡ left-by queue-of self (entries-after (entries self) Next) ⌝ }
+        ensures outcome { λ r. ⌜ r ≡ left-by queue-of self (entries-after (entries self) Next) ⌝ }
+        ensures after { λ r. ⌜ entries (r .next) ≡ entries-after (entries self) Next .1 ⌝ }
     {
-        if self.row.count == 0 {
-            return Outcome::no(self);
+        match self.front_entry() {
+            Some(entry) => Outcome::yes(entry, self.without_entry(0)),
+            None => Outcome::no(self),
         }
-        let places = self.row.places;
-        Outcome::yes(places[0], self.without_entry(0))
     }
 
     // What NEXT is about to move.
     pub(super) fn front_move(self) -> EndMove
         ensures { λ r. ⌜ r ≡ end-move (entries self) (Some Next) ⌝ }
     {
-        if self.row.count == 0 {
-            return EndMove::Stayed;
+        match self.front_entry() {
+            Some(entry) => EndMove::FrontLeft(entry),
+            None => EndMove::Stayed,
         }
-        let places = self.row.places;
-        EndMove::FrontLeft(places[0])
     }
 
     // The queue before an entry joined the back.
@@ -157,7 +178,7 @@ impl Queue {
     pub(super) fn with_front(self, n: u32) -> Queue
         ensures { λ r. ⌜ r ≡ turned queue-of self (entries-before (entries self) (FrontLeft n)) ⌝ }
     {
-        if self.row.count >= PLACES || n > LARGEST {
+        if self.is_full() || !in_range(n) {
             return self;
         }
         self.with_entry(0, n)

@@ -10,7 +10,7 @@ ghost use Rattle.kinds.specs.Rolls.{read-roll, marks, smaller};
 ghost use Rattle.kinds.specs.ShortLists.{room};
 use super::entry::Entry;
 use super::state::Roll;
-use crate::operation::LARGEST;
+use crate::operation::in_range;
 use crate::short_list::Blank;
 use crate::short_list::ShortList;
 use crate::short_list::pull_out;
@@ -29,7 +29,7 @@ impl Entry {
     fn suits(self, low: u32) -> bool
         ensures { λ r. ⌜ r ≡ suits low self ⌝ }
     {
-        self.key >= low && self.key <= LARGEST && self.number <= LARGEST
+        self.key >= low && in_range(self.key) && in_range(self.number)
     }
 }
 

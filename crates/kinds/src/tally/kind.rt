@@ -7,7 +7,6 @@ use super::state::Tally;
 use crate::answer::Class;
 use crate::answer::Outcome;
 use crate::kind::Kind;
-use crate::operation::LARGEST;
 use crate::operation::Operation;
 
 pub impl Kind for Tally as TallyKind {
@@ -52,8 +51,8 @@ pub impl Kind for Tally as TallyKind {
 
     fn undo_record(self, operation: Operation) -> i32 {
         match TallyOperation::read(operation) {
-            Some(TallyOperation::Add(n)) if n <= LARGEST - self.value => n as i32,
-            Some(TallyOperation::Take(n)) if n <= self.value => -(n as i32),
+            Some(TallyOperation::Add(n)) if self.has_room(n) => n as i32,
+            Some(TallyOperation::Take(n)) if self.covers(n) => -(n as i32),
             _ => 0,
         }
     }

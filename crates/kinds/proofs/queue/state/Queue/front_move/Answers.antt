@@ -1,9 +1,9 @@
-use native.Mathlib.Omega.{arith}
-use Rattle.kinds.proofs.QueueLaws.{no-entries, front-entry, move-none, move-some}
+use Rattle.kinds.specs.Queues.{entries}
+use Rattle.kinds.proofs.QueueLaws.{front-some-is, front-none-is, move-none, move-some}
 use Rattle.kinds.proofs.queue.state.Queue.front_move.Needs as need
 
-pub returns-then-self-eq0 : need.returns-then-self-eq0
-returns-then-self-eq0 c = move-none (c .args .self) (no-entries (c .args .self) (c .if-self-eq0 .taken))
+pub returns-in-Some : need.returns-in-Some
+returns-in-Some c = move-some (c .args .self) (c .in-Some .entry) _ (front-some-is (entries (c .args .self)) (c .in-Some .entry) (c .in-Some .ensures tt .value))
 
-pub returns : need.returns
-returns c = move-some (c .args .self) _ _ (front-entry (c .args .self) 0 (omega arith))
+pub returns-in-None : need.returns-in-None
+returns-in-None c = move-none (c .args .self) (front-none-is (entries (c .args .self)) (c .in-None .ensures tt .value))

@@ -1,11 +1,18 @@
 use mathlib.Core.Path.{sym, _∙_}
-use native.Mathlib.Omega.{arith}
-use Rattle.kinds.proofs.QueueLaws.{no-entries, front-entry, next-none, next-some}
+use Rattle.kinds.specs.Queues.{entries}
+use Rattle.kinds.specs.declared.queue.operation.QueueOperation.the-variants.{Next}
+use Rattle.kinds.proofs.QueueLaws.{front-some-is, front-none-is, next-none, next-some}
+use Rattle.kinds.proofs.QueueDuties.{after-entries}
 use Rattle.kinds.proofs.queue.state.Queue.next.Needs as need
 
-pub returns-then-self-eq0 : need.returns-then-self-eq0
-returns-then-self-eq0 c = c .no .ensures ∙ sym (next-none (c .args .self) (no-entries (c .args .self) (c .if-self-eq0 .taken)))
+pub returns-in-Some : need.returns-in-Some
+returns-in-Some c =
+    let q = c .args .self in
+    let e = c .yes .ensures ∙ sym (next-some q (c .without-entry .result) (c .in-Some .entry) _ (front-some-is (entries q) (c .in-Some .entry) (c .in-Some .ensures tt .value)) (c .without-entry .ensures)) in
+    record { outcome = e; after = after-entries q Next _ tt e }
 
-pub returns : need.returns
-returns c =
-    c .yes .ensures ∙ sym (next-some (c .args .self) (c .without-entry .result) _ _ (front-entry (c .args .self) 0 (omega arith)) (c .without-entry .ensures))
+pub returns-in-None : need.returns-in-None
+returns-in-None c =
+    let q = c .args .self in
+    let e = c .no .ensures ∙ sym (next-none q (front-none-is (entries q) (c .in-None .ensures tt .value))) in
+    record { outcome = e; after = after-entries q Next _ tt e }

@@ -1,13 +1,16 @@
-use mathlib.Core.Logic.{⊎-elim}
-use Rattle.std.proofs.shelf.Tests.{lt-leb}
+use mathlib.Core.Path.{sym, _∙_}
 use Rattle.kinds.proofs.QueueLaws.{front-full, front-above, turned-into}
 use Rattle.kinds.proofs.queue.state.Queue.with_front.Needs as need
+use Rattle.kinds.proofs.queue.state.Queue.with_front.Needs.{then-is-full·by·then-is-full, then-is-full·by·else-is-full·then-not-in-range}
 
-pub returns-then-self-ge-PLACES : need.returns-then-self-ge-PLACES
-returns-then-self-ge-PLACES c =
+pub returns-then-is-full : need.returns-then-is-full
+returns-then-is-full c =
     let q = c .args .self in
     let n = c .args .n in
-    ⊎-elim (λ full. front-full q n full) (λ w. front-above q n (lt-leb n _ (w .1)) (w .0)) (c .then-self-ge-PLACES .either)
+    elim (c .then-is-full .came) [
+      | then-is-full·by·then-is-full w ↦ front-full q n (sym (c .is-full .ensures) ∙ w .if-is-full .taken)
+      | then-is-full·by·else-is-full·then-not-in-range w ↦ front-above q n (sym (c .is-full .ensures) ∙ w .if-is-full .left) (sym (w .in-range .ensures) ∙ w .if-not-in-range .taken)
+    ]
 
 pub returns : need.returns
 returns c = turned-into (c .args .self) (c .with-entry .result) _ (c .with-entry .ensures)

@@ -1,5 +1,10 @@
-use mathlib.Core.Path.{sym, _∙_}
+use mathlib.Core.Path.{sym, ap, _∙_}
+use Prim.Native.Nat.{ℕ}
+use native.Mathlib.Omega.{arith}
+use Rattle.std.proofs.shelf.Tests.{leb-false}
+use Rattle.kinds.specs.Outcomes.{yes-to}
 use Rattle.kinds.specs.Rolls.{entry}
+use Rattle.kinds.proofs.RollDuties.{after-mark}
 use Rattle.kinds.proofs.RollSteps.{set-there, set-rises, mark-present, in-there, in-rises, mark-absent, mark-full, yes-finds, no-finds}
 use Rattle.kinds.proofs.roll.state.Roll.mark.Needs as need
 
@@ -15,34 +20,33 @@ returns-in-Ok c =
     let at = c .in-Ok .at in
     let here = c .in-Ok .ensures tt .value in
     let q = c .with-other .result in
-    record {
-      outcome = c .yes .ensures ∙ sym (mark-present r k v at here q (entry 0 0) (c .in-Ok .ensures tt .bound) (c .with-other .ensures));
-      finds = yes-finds r q k v _ _ (c .yes .ensures) (c .with-other .ensures ∙ set-there r k v at here);
-    }
+    let told = c .yes .ensures ∙ ap (λ (n : ℕ). yes-to n q) (c .number-at .ensures) in
+    let e = told ∙ sym (mark-present r k v at here q (entry 0 0) (c .in-Ok .ensures tt .bound) (c .with-other .ensures)) in
+    record { outcome = e; after = after-mark r k v _ (c .pre .key-bound) (c .pre .number-bound) e; finds = yes-finds r q k v _ _ told (c .with-other .ensures ∙ set-there r k v at here) }
 
 pub with-entry-requires : need.with-entry-requires
 with-entry-requires c κs =
-    record { within = c .in-Err .ensures tt .bound; few = c .if-self-ge-PLACES .left; rises = in-rises (c .args .self) (c .args .key) (c .args .number) (c .in-Err .at) (c .in-Err .ensures tt .value) (c .pre .key-bound) (c .pre .number-bound) }
+    record {
+      within = c .in-Err .ensures tt .bound;
+      few = omega (arith, leb-false _ _ (sym (c .if-is-full .ensures tt)));
+      rises = in-rises (c .args .self) (c .args .key) (c .args .number) (c .in-Err .at) (c .in-Err .ensures tt .value) (c .pre .key-bound) (c .pre .number-bound);
+    }
 
-pub returns-else-self-ge-PLACES : need.returns-else-self-ge-PLACES
-returns-else-self-ge-PLACES c =
+pub returns-else-is-full : need.returns-else-is-full
+returns-else-is-full c =
     let r = c .args .self in
     let k = c .args .key in
     let v = c .args .number in
     let at = c .in-Err .at in
     let here = c .in-Err .ensures tt .value in
     let q = c .with-entry .result in
-    record {
-      outcome = c .yes-in-Err .ensures ∙ sym (mark-absent r k v at here q (c .if-self-ge-PLACES .left) (c .with-entry .ensures));
-      finds = yes-finds r q k v 0 _ (c .yes-in-Err .ensures) (c .with-entry .ensures ∙ in-there r k v at here);
-    }
+    let e = c .yes-in-Err .ensures ∙ sym (mark-absent r k v at here q (sym (c .if-is-full .ensures tt)) (c .with-entry .ensures)) in
+    record { outcome = e; after = after-mark r k v _ (c .pre .key-bound) (c .pre .number-bound) e; finds = yes-finds r q k v 0 _ (c .yes-in-Err .ensures) (c .with-entry .ensures ∙ in-there r k v at here) }
 
-pub returns-then-self-ge-PLACES : need.returns-then-self-ge-PLACES
-returns-then-self-ge-PLACES c =
+pub returns-then-is-full : need.returns-then-is-full
+returns-then-is-full c =
     let r = c .args .self in
     let k = c .args .key in
     let v = c .args .number in
-    record {
-      outcome = c .no .ensures ∙ sym (mark-full r k v (c .in-Err .at) (c .in-Err .ensures tt .value) (c .if-self-ge-PLACES .taken));
-      finds = no-finds r k v _ (c .no .ensures);
-    }
+    let e = c .no .ensures ∙ sym (mark-full r k v (c .in-Err .at) (c .in-Err .ensures tt .value) (sym (c .if-is-full .ensures tt))) in
+    record { outcome = e; after = after-mark r k v _ (c .pre .key-bound) (c .pre .number-bound) e; finds = no-finds r k v _ (c .no .ensures) }
