@@ -1,6 +1,5 @@
 // One operation entered on one object, and undone again where it was struck.
 ghost use mathlib.Core.Path.{_≡_};
-ghost use mathlib.Core.Bool.{cond};
 ghost use Prim.Native.Nat.{_<_, _≤_};
 ghost use lib.ListN.{length, getD, set};
 ghost use Rattle.first_count.specs.Entering.{reply-of, state-after};

@@ -1,6 +1,6 @@
 -- The numbers of an operation that a code stands for.
 use mathlib.Core.Path.{_≡_}
-use mathlib.Core.Bool.{Bool, true}
+use mathlib.Core.Bool.{true}
 use Prim.Native.Nat.{ℕ}
 use lib.Dec.{eqb, leb, ltb}
 use Rattle.std.proofs.shelf.Tests.{and-parts}

@@ -1,6 +1,6 @@
 -- Queues by their entries.
 use mathlib.Core.Path.{_≡_, refl, ap, sym, _∙_}
-use mathlib.Core.Bool.{Bool, true, false, cond, not}
+use mathlib.Core.Bool.{true, false}
 use mathlib.Core.List.{List, [], _∷_, _++_}
 use Prim.Native.Nat.{ℕ, zero, suc, _+_, _-_, _≤_, _<_}
 use native.Mathlib.Omega.{arith}
@@ -16,12 +16,11 @@ use Rattle.kinds.specs.declared.answer.Answer.{Answer}
 use Rattle.kinds.specs.declared.answer.Answer.the-variants.{Yes, No}
 use Rattle.kinds.specs.declared.short_list.ShortList.{ShortList}
 use Rattle.kinds.specs.declared.queue.state.Queue.{Queue}
-use Rattle.kinds.specs.Outcomes.{yes-to, no-to, turned, left-by, by-table}
+use Rattle.kinds.specs.Outcomes.{yes-to, no-to, turned, left-by}
 use Rattle.kinds.specs.QueueRows.{blank-number, is-queue}
 use Rattle.kinds.specs.Operations.{ranged}
-use Rattle.kinds.specs.Queues.{entries, front-of, entries-after, entries-before, end-move, in-range, queue-class, queue-operation, read-queue, queue-of}
-use Rattle.kinds.specs.ShortLists.{room, items, packed, all, holds}
-use Rattle.kinds.specs.declared.queue.operation.QueueOperation.{QueueOperation}
+use Rattle.kinds.specs.Queues.{entries, front-of, entries-after, entries-before, end-move, read-queue, queue-of}
+use Rattle.kinds.specs.ShortLists.{room, items, packed, all}
 use Rattle.kinds.specs.declared.queue.operation.QueueOperation.the-variants.{Front, Put, Next}
 use Rattle.kinds.specs.declared.queue.operation.EndMove.the-variants.{Stayed, BackJoined, FrontLeft}
 use Rattle.kinds.proofs.Alls.{all-inserted, all-removed}

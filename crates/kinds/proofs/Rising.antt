@@ -1,21 +1,21 @@
 -- Entries with rising keys: where a key stands, and what putting it in, setting it and taking it out leave.
-use mathlib.Core.Path.{_≡_, refl, ap, sym, _∙_}
-use mathlib.Core.Logic.{_⊎_, inl, inr, ⊎-elim}
-use mathlib.Core.Bool.{Bool, true, false, cond, _&&_}
-use mathlib.Core.List.{List, [], _∷_, _++_}
-use Prim.Native.Nat.{ℕ, zero, suc, _+_, _-_, _≤_, _<_}
+use mathlib.Core.Path.{_≡_, refl, ap, sym}
+use mathlib.Core.Logic.{⊎-elim}
+use mathlib.Core.Bool.{true, false, cond, _&&_}
+use mathlib.Core.List.{List, [], _∷_}
+use Prim.Native.Nat.{ℕ, _+_, _≤_, _<_}
 use native.Mathlib.Omega.{arith}
 use lib.Dec.{eqb, ltb, leb}
-use lib.ListN.{length, take, drop, set, getD}
+use lib.ListN.{length, set, getD}
 use Rattle.std.specs.Holes.{inserted, removed}
-use Rattle.std.specs.declared.option.Option.{Option}
 use Rattle.std.specs.declared.option.Option.the-variants.{Some, None}
 use Rattle.std.proofs.shelf.Tests.{cases-order, lt-ltb, le-ltb, le-leb, leb-true, eq-eqb, ne-eqb, and-parts, and-from}
 use Rattle.std.proofs.shelf.Ways.{tells}
 use Rattle.kinds.specs.declared.roll.entry.Entry.{Entry}
 use Rattle.kinds.specs.Operations.{ranged}
 use Rattle.kinds.specs.RollRows.{suits, rising}
-use Rattle.kinds.specs.Rolls.{entry, found, marked, without, smaller}
+use Rattle.kinds.specs.RollPlaces.{smaller}
+use Rattle.kinds.specs.Rolls.{entry, found, marked, without}
 
 -- two numbers by their tests
 by-order : {P : Type 0} (a b : ℕ) → (a < b → ltb a b ≡ true → eqb a b ≡ false → P) → (a ≡ b → ltb a b ≡ false → eqb a b ≡ true → P) → (b < a → ltb a b ≡ false → eqb a b ≡ false → P) → P

@@ -1,9 +1,9 @@
 -- The laws that a roll owes, by its entries.
 use mathlib.Core.Path.{_≡_, refl, ap, sym, _∙_}
 use mathlib.Core.Logic.{⊎-elim}
-use mathlib.Core.Bool.{true, false, cond}
-use mathlib.Core.List.{List, [], _∷_}
-use Prim.Native.Nat.{ℕ, _+_, _≤_}
+use mathlib.Core.Bool.{true}
+use mathlib.Core.List.{List}
+use Prim.Native.Nat.{ℕ, _≤_}
 use native.Mathlib.Omega.{arith}
 use lib.Dec.{ltb}
 use lib.ListN.{length, length-set}
@@ -12,8 +12,7 @@ use Rattle.std.specs.declared.option.Option.the-variants.{Some, None}
 use Rattle.std.proofs.shelf.Edits.{length-inserted}
 use Rattle.std.proofs.shelf.Tests.{cond-both, cases-bool, ltb-true}
 use Rattle.std.proofs.shelf.Ways.{tells}
-use Rattle.kinds.specs.declared.answer.Answer.{Answer}
-use Rattle.kinds.specs.declared.answer.Answer.the-variants.{Yes, No}
+use Rattle.kinds.specs.declared.answer.Answer.the-variants.{No}
 use Rattle.kinds.specs.declared.answer.Class.the-variants.{Read, Write}
 use Rattle.kinds.specs.declared.answer.Outcome.{Outcome}
 use Rattle.kinds.specs.declared.operation.Operation.{Operation}
@@ -24,7 +23,8 @@ use Rattle.kinds.specs.declared.roll.state.Roll.{Roll}
 use Rattle.kinds.specs.Operations.{is, ranged}
 use Rattle.kinds.specs.Outcomes.{turned, left-by, by-table}
 use Rattle.kinds.specs.RollRows.{rising}
-use Rattle.kinds.specs.Rolls.{entry, marks, found, marked, smaller, find-after, mark-after, marks-after, marks-before, put-back, former, roll-bound, roll-class, roll-operation, roll-of}
+use Rattle.kinds.specs.RollPlaces.{smaller}
+use Rattle.kinds.specs.Rolls.{entry, marks, found, find-after, mark-after, marks-after, marks-before, put-back, former, roll-bound, roll-class, roll-operation, roll-of}
 use Rattle.kinds.specs.ShortLists.{room}
 use Rattle.kinds.proofs.Fitting.{fits-first, fits-second}
 use Rattle.kinds.proofs.Rising

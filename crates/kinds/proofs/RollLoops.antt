@@ -1,5 +1,5 @@
 -- The loops over the entries of a roll: what is left decides as the whole does.
-use mathlib.Core.Path.{_≡_, refl, ap, sym, _∙_}
+use mathlib.Core.Path.{_≡_, ap, sym, _∙_}
 use mathlib.Core.Bool.{Bool, true, false, cond, _&&_}
 use mathlib.Core.List.{List}
 use Prim.Native.Nat.{ℕ, suc, _+_, _≤_, _<_}
@@ -10,7 +10,7 @@ use Rattle.std.proofs.shelf.Lists.{at-drop-more, at-drop-all}
 use Rattle.std.proofs.shelf.Tests.{lt-ltb, le-ltb}
 use Rattle.kinds.specs.declared.roll.entry.Entry.{Entry}
 use Rattle.kinds.specs.RollRows.{suits, rising}
-use Rattle.kinds.specs.Rolls.{smaller}
+use Rattle.kinds.specs.RollPlaces.{smaller}
 
 module _ (es : List Entry) (i low : ℕ) where
   module _ (d : Entry) (within : i < length es) where

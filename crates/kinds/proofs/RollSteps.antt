@@ -1,21 +1,19 @@
 -- What the methods of a roll leave, by its entries.
 use mathlib.Core.Path.{_≡_, refl, ap, sym, _∙_}
 use mathlib.Core.Logic.{⊎-elim}
-use mathlib.Core.Bool.{Bool, true, false, cond}
-use mathlib.Core.List.{List, [], _∷_}
-use Prim.Native.Nat.{ℕ, _+_, _≤_, _<_}
+use mathlib.Core.Bool.{true, false}
+use mathlib.Core.List.{List}
+use Prim.Native.Nat.{ℕ, _<_}
 use native.Mathlib.Omega.{arith}
 use lib.Dec.{ltb, leb}
-use lib.ListN.{length, take, set, getD}
+use lib.ListN.{length, set, getD}
 use Rattle.std.specs.Holes.{inserted, removed}
 use Rattle.std.specs.declared.option.Option.{Option}
 use Rattle.std.specs.declared.option.Option.the-variants.{Some, None}
-use Rattle.std.specs.declared.result.Result.{Result}
 use Rattle.std.specs.declared.result.Result.the-variants.{Ok, Err}
 use Rattle.std.proofs.shelf.Lists.{getD-take}
 use Rattle.std.proofs.shelf.Tests.{lt-ltb, le-ltb, ltb-false, leb-true, leb-false, cases-bool}
 use Rattle.std.proofs.shelf.Edits.{length-inserted}
-use Rattle.kinds.specs.declared.answer.Answer.{Answer}
 use Rattle.kinds.specs.declared.answer.Answer.the-variants.{Yes, No}
 use Rattle.kinds.specs.declared.answer.Outcome.{Outcome}
 use Rattle.kinds.specs.declared.roll.entry.Entry.{Entry}
@@ -24,7 +22,8 @@ use Rattle.kinds.specs.declared.roll.operation.RollOperation.the-variants.{Fin
 use Rattle.kinds.specs.Operations.{ranged}
 use Rattle.kinds.specs.Outcomes.{yes-to, no-to, turned, left-by}
 use Rattle.kinds.specs.RollRows.{rising}
-use Rattle.kinds.specs.Rolls.{entry, marks, found, marked, without, find-after, mark-after, marks-after, numbers-after, roll-of, smaller, placed, place-of}
+use Rattle.kinds.specs.RollPlaces.{smaller, placed, place-of}
+use Rattle.kinds.specs.Rolls.{entry, marks, found, marked, without, find-after, mark-after, marks-after, numbers-after, roll-of}
 use Rattle.kinds.specs.ShortLists.{room}
 use Rattle.kinds.proofs.Rising
 use Rattle.kinds.proofs.RollLaws.{roll-held, marks-length, left-own, turned-into, unmade}
@@ -61,9 +60,6 @@ number-at r k at d h e =
     let p = ok-some (found k (marks r)) at (smaller k (marks r)) e in
     let there = Rising.found-at 0 k (p .0) (marks r) d (roll-held r .2) (p .1) in
     ap (λ (x : Entry). Some (x .number)) (mark-at r at d h ∙ ap (λ (i : ℕ). getD (marks r) i d) (p .2) ∙ there .1) ∙ sym (p .1)
-
-pub number-absent : (r : Roll) (k at : ℕ) → Err at ≡ place-of k (marks r) → None ≡ found k (marks r)
-number-absent r k at e = sym (err-none (found k (marks r)) at (smaller k (marks r)) e .0)
 
 -- FIND
 pub find-some : (r : Roll) (k v : ℕ) → Some v ≡ found k (marks r) → left-by roll-of r (marks-after (marks r) (Find k)) ≡ yes-to v r

@@ -3,6 +3,7 @@ pub mod Operations
 pub mod Outcomes
 pub mod QueueRows
 pub mod Queues
+pub mod RollPlaces
 pub mod RollRows
 pub mod Rolls
 pub mod Rows

@@ -1,7 +1,7 @@
 -- A queue: what it knows, what each operation does, and how a write is undone. Assumes nothing.
 --
 -- | queue-operation | the operation of a code and its numbers |
--- | in-range        | the number of an operation is at most the largest |
+-- | queue-bound        | the number of an operation is at most the largest |
 -- | queue-uses      | how many numbers a code uses |
 -- | queue-class     | what an operation is to a queue |
 -- | entries         | the entries of a queue, from the front |
@@ -43,11 +43,11 @@ abbrev pub queue-operation : Operation → Option QueueOperation
 queue-operation o = cond (is 12 0 o) (Some Front) (cond (is 13 1 o) (Some (Put (o .first))) (cond (is 14 0 o) (Some Next) None))
 
 -- the number of an operation is at most the largest
-abbrev pub in-range : Option QueueOperation → Type 0
-in-range None = Unit {0}
-in-range (Some Front) = Unit {0}
-in-range (Some (Put n)) = ranged n ≡ true
-in-range (Some Next) = Unit {0}
+abbrev pub queue-bound : Option QueueOperation → Type 0
+queue-bound None = Unit {0}
+queue-bound (Some Front) = Unit {0}
+queue-bound (Some (Put n)) = ranged n ≡ true
+queue-bound (Some Next) = Unit {0}
 
 -- PUT uses one number
 abbrev pub queue-uses : Queue → ℕ → ℕ

@@ -5,19 +5,21 @@
 -- | roll-uses      | how many numbers a code uses |
 -- | roll-class     | what an operation is to a roll |
 -- | marks          | the entries of a roll, by rising keys |
+-- | entry          | a key with its number |
 -- | found          | the number of a key |
 -- | marked         | the entries with a key's number set |
 -- | without        | the entries without a key |
+-- | find-after, mark-after | what FIND and MARK answer, and the entries after them |
 -- | marks-after    | what an operation answers, and the entries after it |
 -- | numbers-after  | the number of each key after a MARK |
 -- | read-roll      | the roll of a row |
 -- | roll-of        | the roll of some entries |
 -- | roll-acts      | what an operation does to a roll |
+-- | former-of      | the entry of a key as it is |
 -- | former         | the entry of an operation's key before it |
+-- | put-back       | the entries with a key's number put back |
 -- | marks-before   | the entries with a former entry put back |
--- | smaller        | how many keys stand before a key's place |
--- | place-of       | where a key stands, or where it would |
-use Prim.Native.Nat.{ℕ, suc}
+use Prim.Native.Nat.{ℕ}
 use mathlib.Core.Path.{_≡_}
 use mathlib.Core.Bool.{cond, true}
 use mathlib.Core.List.{List, [], _∷_}
@@ -25,8 +27,6 @@ use lib.Dec.{ltb, eqb}
 use lib.ListN.{length}
 use Rattle.std.specs.declared.option.Option.{Option}
 use Rattle.std.specs.declared.option.Option.the-variants.{Some, None}
-use Rattle.std.specs.declared.result.Result.{Result}
-use Rattle.std.specs.declared.result.Result.the-variants.{Ok, Err}
 use Rattle.kinds.specs.declared.answer.Answer.{Answer}
 use Rattle.kinds.specs.declared.answer.Answer.the-variants.{Yes, No}
 use Rattle.kinds.specs.declared.answer.Class.{Class}
@@ -138,16 +138,3 @@ put-back (Some v) k es = marked k v es
 -- the entries with a former entry put back
 abbrev pub marks-before : List Entry → Former → List Entry
 marks-before es f = put-back (f .number) (f .key) es
-
--- how many keys stand before the place of key k
-abbrev pub smaller : ℕ → List Entry → ℕ
-smaller k [] = 0
-smaller k (e ∷ es) = cond (ltb (e .key) k) (suc (smaller k es)) 0
-
--- the place at which key k stands, or else at which it would
-abbrev pub placed : Option ℕ → ℕ → Result ℕ ℕ
-placed None at = Err at
-placed (Some v) at = Ok at
-
-abbrev pub place-of : ℕ → List Entry → Result ℕ ℕ
-place-of k es = placed (found k es) (smaller k es)

@@ -1,6 +1,6 @@
 // The operations that a queue knows, and what undoes one.
 ghost use mathlib.Core.Path.{_≡_};
-ghost use Rattle.kinds.specs.Queues.{queue-operation, in-range};
+ghost use Rattle.kinds.specs.Queues.{queue-operation, queue-bound};
 use crate::operation::Operation;
 
 pub const FRONT: u32 = 12;
@@ -29,7 +29,7 @@ impl QueueOperation {
     // The operation that a code and its numbers stand for, if a queue knows it.
     pub(super) fn read(operation: Operation) -> Option<QueueOperation>
         ensures value { λ r. ⌜ r ≡ queue-operation operation ⌝ }
-        ensures bound { λ r. ⌜ in-range r ⌝ }
+        ensures bound { λ r. ⌜ queue-bound r ⌝ }
     {
         match operation.code {
             FRONT if operation.fits(0) => Some(QueueOperation::Front),

@@ -1,7 +1,7 @@
 use mathlib.Core.Path.{_≡_}
 use Prim.Native.Nat.{_+_}
 use lib.ListN.{drop}
-use Rattle.kinds.specs.Rolls.{smaller}
+use Rattle.kinds.specs.RollPlaces.{smaller}
 use Rattle.kinds.proofs.roll.rows.place.Given as given
 
 abbrev pub Inv-loop-at : given.InvT-loop-at

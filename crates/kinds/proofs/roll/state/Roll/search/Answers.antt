@@ -3,7 +3,8 @@ use Prim.Native.Nat.{ℕ, _-_, _<_}
 use native.Mathlib.Omega.{arith}
 use lib.ListN.{take, getD}
 use Rattle.kinds.specs.declared.roll.state.Roll.{Roll}
-use Rattle.kinds.specs.Rolls.{entry, marks, smaller}
+use Rattle.kinds.specs.RollPlaces.{smaller}
+use Rattle.kinds.specs.Rolls.{entry, marks}
 use Rattle.kinds.proofs.Rising.{smaller-within}
 use Rattle.kinds.proofs.RollLaws.{marks-length}
 use Rattle.kinds.proofs.RollSteps.{place-present, place-absent}
