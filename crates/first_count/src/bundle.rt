@@ -1,4 +1,7 @@
 // The objects of the count, and what one counter enters from one bundle.
+ghost use mathlib.Core.Path.{_≡_};
+ghost use mathlib.Core.Bool.{true, false};
+ghost use Rattle.first_count.specs.Entering.{entry-of};
 use crate::enter::Entry;
 use kinds::either::Either;
 use kinds::either::Object;
@@ -36,32 +39,32 @@ pub fn opening() -> Option<[Object; 4]> {
 }
 
 // An operation entered on an object.
-fn entered(object: usize, code: u32, first: u32, second: u32) -> Entry {
-    let operation = Operation {
-        code,
-        first,
-        second,
-    };
-    let struck = false;
+fn entered(object: usize, code: u32, first: u32, second: u32) -> Entry
+    ensures { λ r. ⌜ r ≡ entry-of object code first second false ⌝ }
+{
     Entry {
         object,
-        operation,
-        struck,
+        operation: Operation {
+            code,
+            first,
+            second,
+        },
+        struck: false,
     }
 }
 
 // The same, struck right after.
-fn struck(object: usize, code: u32, first: u32, second: u32) -> Entry {
-    let operation = Operation {
-        code,
-        first,
-        second,
-    };
-    let struck = true;
+fn struck(object: usize, code: u32, first: u32, second: u32) -> Entry
+    ensures { λ r. ⌜ r ≡ entry-of object code first second true ⌝ }
+{
     Entry {
         object,
-        operation,
-        struck,
+        operation: Operation {
+            code,
+            first,
+            second,
+        },
+        struck: true,
     }
 }
 

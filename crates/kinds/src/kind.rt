@@ -44,22 +44,31 @@ pub trait Kind: Copy {
     // the state of a row, if it is a state's
     ghost reads: { Self·Row → Option Self };
 
+    // No operation changes what any operation is to the object.
     law class_stays: { (s : Self) (o p : Operation) → classed (acts s p .next) o ≡ classed s o };
 
+    // A read leaves the state.
     law read_stays: { (s : Self) (o : Operation) → classed s o ≡ Read → acts s o .next ≡ s };
 
+    // An unknown operation answers no and leaves the state.
     law unknown_stays: { (s : Self) (o : Operation) → classed s o ≡ Unknown → acts s o ≡ no-to s };
 
+    // An answer of no leaves the state.
     law no_stays: { (s : Self) (o : Operation) → acts s o .answer ≡ No → acts s o .next ≡ s };
 
+    // An operation with a number above the largest, or with an unused one that is not 0, is unknown.
     law misfit_unknown: { (s : Self) (o : Operation) → fits (uses s (o .code)) o ≡ false → classed s o ≡ Unknown };
 
+    // Undoing right after a write restores the state.
     law undo_restores: { (s : Self) (o : Operation) → classed s o ≡ Write → undone (acts s o .next) (records s o) ≡ s };
 
+    // The row of a state reads back as that state.
     law row_reads: { (s : Self) → reads (rowed s) ≡ Some s };
 
+    // Nothing but rows of states reads back.
     law reads_row: { (s : Self) (r : Self·Row) → reads r ≡ Some s → rowed s ≡ r };
 
+    // Equal rows mean equal states.
     law same_row: { (s t : Self) → rowed s ≡ rowed t → s ≡ t };
 
     // What an operation is to this object.

@@ -24,7 +24,7 @@ use crate::short_list::ShortList;
 use crate::short_list::pull_out;
 use crate::short_list::push_in;
 
-pub impl Blank for u32 as NumberBlank {
+pub(crate) impl Blank for u32 as NumberBlank {
     ghost blanks = { blank-number };
 
     fn is_blank(self) -> bool {

@@ -17,7 +17,7 @@ use crate::short_list::ShortList;
 use crate::short_list::pull_out;
 use crate::short_list::push_in;
 
-pub impl Blank for Entry as EntryBlank {
+pub(crate) impl Blank for Entry as EntryBlank {
     ghost blanks = { blank-entry };
 
     fn is_blank(self) -> bool {

@@ -9,7 +9,7 @@ use super::PLACES;
 use super::ShortList;
 
 // An item of which one value stands for an empty place.
-pub trait Blank: Copy {
+pub(crate) trait Blank: Copy {
     // whether an item is the blank
     ghost blanks: { Self → Bool };
 

@@ -1,7 +1,7 @@
 // Lists of up to twelve items as plain data: how queues and rolls lie in a row.
 mod methods;
 
-pub use methods::Blank;
+pub(crate) use methods::Blank;
 pub(crate) use methods::pull_out;
 pub(crate) use methods::push_in;
 

@@ -71,6 +71,6 @@ pub impl Kind for Tally as TallyKind {
     }
 
     fn from_row(row: u32) -> Option<Tally> {
-        Tally::new(row)
+        Tally::read(row)
     }
 }

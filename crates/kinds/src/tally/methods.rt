@@ -16,6 +16,13 @@ impl Tally {
     pub fn new(value: u32) -> Option<Tally>
         ensures { λ r. ⌜ r ≡ tally-at value ⌝ }
     {
+        Tally::read(value)
+    }
+
+    // The tally of a row, if the row is a tally's.
+    pub(super) fn read(value: u32) -> Option<Tally>
+        ensures { λ r. ⌜ r ≡ tally-at value ⌝ }
+    {
         if !in_range(value) {
             return None;
         }
