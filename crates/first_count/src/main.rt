@@ -1,11 +1,11 @@
 // A first count: one counter enters one bundle, and each answer and closing state is printed.
-mod bundle;
 mod enter;
+mod entries;
 mod words;
 
-use bundle::bundle;
-use bundle::opening;
 use enter::enter;
+use entries::entries;
+use entries::opening;
 use kinds::either::EitherKind;
 use kinds::queue::QueueKind;
 use kinds::roll::RollKind;
@@ -20,8 +20,8 @@ fn run(rt: &LibcRuntime) -> Result<(), AnyError> {
     let Some(mut objects) = opening() else {
         return Err("an opening value is out of range".into());
     };
-    let entries = bundle();
-    for entry in entries.iter() {
+    let all = entries();
+    for entry in all.iter() {
         let reply = enter(&mut objects, *entry);
         rt.println(Line {
             entry: *entry,

@@ -85,9 +85,9 @@ fn show_reply<W: fmt::Write>(reply: Reply, f: &mut fmt::Formatter<W>) -> fmt::Re
         Reply::Missing => write!(f, "no such object"),
         Reply::Unknown => write!(f, "unknown"),
         Reply::Answered(answer) => show_answer(answer, f),
-        Reply::Struck(answer) => {
+        Reply::Undone(answer) => {
             show_answer(answer, f)?;
-            write!(f, ", struck")
+            write!(f, ", undone")
         }
     }
 }

@@ -1,4 +1,4 @@
-// The objects of the count, and what one counter enters from one bundle.
+// The objects of the count, and what is entered on them.
 ghost use mathlib.Core.Path.{_≡_};
 ghost use mathlib.Core.Bool.{true, false};
 ghost use Rattle.first_count.specs.Entering.{entry-of};
@@ -22,12 +22,12 @@ const FIRST: usize = 0;
 
 const SECOND: usize = 1;
 
-const DOUBTFUL: usize = 2;
+const QUEUE: usize = 2;
 
-const VOTED: usize = 3;
+const ROLL: usize = 3;
 
 // Two tallies in hundredths of a vote, the queue of doubtful bundles and the roll of members who voted.
-pub fn opening() -> Option<[Object; 4]> {
+pub(crate) fn opening() -> Option<[Object; 4]> {
     let first = Tally::new(120_000)?;
     let second = Tally::new(0)?;
     Some([
@@ -49,12 +49,12 @@ fn entered(object: usize, code: u32, first: u32, second: u32) -> Entry
             first,
             second,
         },
-        struck: false,
+        undo: false,
     }
 }
 
-// The same, struck right after.
-fn struck(object: usize, code: u32, first: u32, second: u32) -> Entry
+// The same, undone right after.
+fn entered_and_undone(object: usize, code: u32, first: u32, second: u32) -> Entry
     ensures { λ r. ⌜ r ≡ entry-of object code first second true ⌝ }
 {
     Entry {
@@ -64,13 +64,13 @@ fn struck(object: usize, code: u32, first: u32, second: u32) -> Entry
             first,
             second,
         },
-        struck: true,
+        undo: true,
     }
 }
 
-// The bundle: votes credited and corrected, a correction that is refused, doubtful bundles put by and
-// taken up, members marked, two marks struck, and a word that the object does not know.
-pub fn bundle() -> [Entry; 19] {
+// One bundle of papers: votes credited and corrected, a correction that is refused, doubtful bundles
+// put by and taken up, members marked, two marks undone, and a word that the object does not know.
+pub(crate) fn entries() -> [Entry; 19] {
     [
         entered(FIRST, ADD, 2_500, 0),
         entered(SECOND, ADD, 1_900, 0),
@@ -78,18 +78,18 @@ pub fn bundle() -> [Entry; 19] {
         entered(SECOND, ADD, 100, 0),
         entered(SECOND, TAKE, 5_000, 0),
         entered(SECOND, SHOW, 0, 0),
-        entered(DOUBTFUL, PUT, 17, 0),
-        entered(DOUBTFUL, PUT, 23, 0),
-        entered(DOUBTFUL, FRONT, 0, 0),
-        entered(DOUBTFUL, NEXT, 0, 0),
-        entered(VOTED, MARK, 118, 1),
-        entered(VOTED, MARK, 42, 1),
-        entered(VOTED, MARK, 118, 2),
-        entered(VOTED, FIND, 118, 0),
-        struck(VOTED, MARK, 77, 1),
-        entered(VOTED, FIND, 77, 0),
-        struck(VOTED, MARK, 42, 9),
-        entered(VOTED, FIND, 42, 0),
-        entered(DOUBTFUL, ADD, 50, 0),
+        entered(QUEUE, PUT, 17, 0),
+        entered(QUEUE, PUT, 23, 0),
+        entered(QUEUE, FRONT, 0, 0),
+        entered(QUEUE, NEXT, 0, 0),
+        entered(ROLL, MARK, 118, 1),
+        entered(ROLL, MARK, 42, 1),
+        entered(ROLL, MARK, 118, 2),
+        entered(ROLL, FIND, 118, 0),
+        entered_and_undone(ROLL, MARK, 77, 1),
+        entered(ROLL, FIND, 77, 0),
+        entered_and_undone(ROLL, MARK, 42, 9),
+        entered(ROLL, FIND, 42, 0),
+        entered(QUEUE, ADD, 50, 0),
     ]
 }
