@@ -52,7 +52,7 @@ impl Queue {
         Queue {
             row: ShortList {
                 count: 0,
-                places: [0; 12],
+                places: [0; PLACES],
             },
         }
     }

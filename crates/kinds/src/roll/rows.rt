@@ -13,6 +13,7 @@ use super::entry::Entry;
 use super::state::Roll;
 use crate::operation::in_range;
 use crate::short_list::Blank;
+use crate::short_list::PLACES;
 use crate::short_list::ShortList;
 use crate::short_list::pull_out;
 use crate::short_list::push_in;
@@ -69,7 +70,7 @@ impl Roll {
         Roll {
             row: ShortList {
                 count: 0,
-                places: [blank; 12],
+                places: [blank; PLACES],
             },
         }
     }

@@ -50,7 +50,7 @@ fn all_blank<T: Blank>(places: &[T]) -> bool
 }
 
 // Whether the places past a count are blank, and there are as many as the count.
-fn blank_past<T: Blank>(places: &[T; 12], count: usize) -> bool
+fn blank_past<T: Blank>(places: &[T; PLACES], count: usize) -> bool
     ensures { λ r. ⌜ r ≡ packs blanks (record { count = count; places = now (places .entry) }) ⌝ }
 {
     if count > PLACES {

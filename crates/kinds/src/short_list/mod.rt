@@ -13,5 +13,5 @@ pub const PLACES: usize = 12;
 #[derive(Clone, Copy)]
 pub struct ShortList<T> {
     pub count: usize,
-    pub places: [T; 12],
+    pub places: [T; PLACES],
 }
