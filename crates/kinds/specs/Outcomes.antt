@@ -1,11 +1,11 @@
 -- What comes of an operation. Assumes nothing.
 --
--- | yes-to   | yes with a number, and the next state |
--- | no-to    | no, and the state as it was |
--- | turned   | the state made of a content |
--- | left-by  | an answer, and the state made of the content after it |
+-- | yes-to        | yes with a number, and the next state |
+-- | no-to         | no, and the state as it was |
+-- | turned        | the state made of a content |
+-- | left-by       | an answer, and the state made of the content after it |
 -- | content-after | the content after an operation by its kind's table |
--- | by-table | what an operation does by its kind's table |
+-- | by-table      | what an operation does by its kind's table |
 use Prim.Native.Nat.{ℕ}
 use Rattle.std.specs.declared.option.Option.{Option}
 use Rattle.std.specs.declared.option.Option.the-variants.{Some, None}

@@ -1,7 +1,7 @@
 -- A queue: what it knows, what each operation does, and how a write is undone. Assumes nothing.
 --
 -- | queue-operation | the operation of a code and its numbers |
--- | queue-bound        | the number of an operation is at most the largest |
+-- | queue-bound     | the number of an operation is at most the largest |
 -- | queue-uses      | how many numbers a code uses |
 -- | queue-class     | what an operation is to a queue |
 -- | entries         | the entries of a queue, from the front |

@@ -49,7 +49,7 @@ fn all_blank<T: Blank>(places: &[T]) -> bool
     true
 }
 
-// Whether the places past a count are blank, and there are as many as the count.
+// Whether a count is at most twelve, and the places past it are blank.
 fn blank_past<T: Blank>(places: &[T; PLACES], count: usize) -> bool
     ensures { λ r. ⌜ r ≡ packs blanks (record { count = count; places = now (places .entry) }) ⌝ }
 {
