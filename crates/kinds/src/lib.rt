@@ -1,4 +1,6 @@
 // The object kinds: what an object is, which operations it knows, and what each does.
+#![tactic(auto)]
+
 pub mod answer;
 pub mod either;
 pub mod kind;

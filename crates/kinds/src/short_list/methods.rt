@@ -35,7 +35,7 @@ pub(crate) fn pull_out<T: Copy>(places: &mut [T], at: usize, blank: T)
 
 // Whether each item is blank.
 fn all_blank<T: Blank>(places: &[T]) -> bool
-    ensures { result ≡ all blanks places.now }
+    ensures { result ≡ all T.blanks places.now }
 {
     for place in places {
         if !place.is_blank() {
@@ -47,7 +47,7 @@ fn all_blank<T: Blank>(places: &[T]) -> bool
 
 // Whether a count is at most twelve, and the places past it are blank.
 fn blank_past<T: Blank>(places: &[T; PLACES], count: usize) -> bool
-    ensures { result ≡ packs blanks (record { count = count; places = places.now }) }
+    ensures { result ≡ packs T.blanks (record { count = count; places = places.now }) }
 {
     if count > PLACES {
         return false;
@@ -59,7 +59,7 @@ fn blank_past<T: Blank>(places: &[T; PLACES], count: usize) -> bool
 impl<T: Blank> ShortList<T> {
     // Whether this is a list: at most twelve items, and blanks past them.
     pub(crate) fn is_packed(&self) -> bool
-        ensures { result ≡ packs blanks self.now }
+        ensures { result ≡ packs T.blanks self.now }
     {
         blank_past(&self.places, self.count)
     }

@@ -7,4 +7,4 @@ use Rattle.kinds.proofs.short_list.methods.blank_past.Goals as goal
 pub returns : goal.returns
 returns g c =
     let n : length c.args.places.now ≡ 12 = omega arith in
-    c.all-blank.ensures ∙ ap (all g.T.Blank.blanks) (take_rest c.args.places.now c.args.count) ∙ sym (packs_is g.T.Blank.blanks _ c.if-count-gt-PLACES.false n)
+    c.all_blank.ensures ∙ ap (all g.T.Blank.blanks) (take_rest c.args.places.now c.args.count) ∙ sym (packs_is g.T.Blank.blanks _ c.if-count-gt-PLACES.false n)

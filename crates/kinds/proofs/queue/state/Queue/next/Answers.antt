@@ -8,7 +8,7 @@ use Rattle.kinds.proofs.queue.state.Queue.next.Goals as goal
 pub returns-in-Some : goal.returns-in-Some
 returns-in-Some c =
     let q = c.args.self in
-    let e = c.yes.ensures ∙ sym (next_some q c.without-entry.result c.in-Some.entry _ (front_some_is (entries q) c.in-Some.entry c.in-Some.ensures.value) c.without-entry.ensures) in
+    let e = c.yes.ensures ∙ sym (next_some q c.without_entry.result c.in-Some.entry _ (front_some_is (entries q) c.in-Some.entry c.in-Some.ensures.value) c.without_entry.ensures) in
     record { outcome = e; after = after_entries q Next _ tt e }
 
 pub returns-in-None : goal.returns-in-None

@@ -5,15 +5,15 @@ use Rattle.kinds.specs.ShortLists.{all}
 use Rattle.kinds.specs.QueueLaws.{read_own, unread}
 use Rattle.kinds.proofs.queue.state.Queue.read.Goals as goal
 
-pub returns-then-not-is-packed : goal.returns-then-not-is-packed
-returns-then-not-is-packed c = sym (unread c.args.row (and_left _ _ (sym c.if-not-is-packed.ensures)))
+pub returns-then-not-is_packed : goal.returns-then-not-is_packed
+returns-then-not-is_packed c = sym (unread c.args.row (and_left _ _ (sym c.if-not-is_packed.ensures)))
 
-pub returns-then-not-all-ranged : goal.returns-then-not-all-ranged
-returns-then-not-all-ranged c =
+pub returns-then-not-all_ranged : goal.returns-then-not-all_ranged
+returns-then-not-all_ranged c =
     let l = c.args.row in
     let e : l.count - 0 ≡ l.count = omega arith in
     let f = ap (λ (n : ℕ). all ranged (take n l.places)) (sym e) in
-    sym (unread l (and_right _ _ (f ∙ sym c.if-not-all-ranged.ensures)))
+    sym (unread l (and_right _ _ (f ∙ sym c.if-not-all_ranged.ensures)))
 
 pub returns : goal.returns
 returns c = sym (read_own _)

@@ -1,16 +1,16 @@
 use Rattle.std.proofs.Common.{sym, ◌∙◌}
 use Rattle.kinds.specs.QueueLaws.{front_full, front_above, turned_into}
 use Rattle.kinds.proofs.queue.state.Queue.with_front.Goals as goal
-use Rattle.kinds.proofs.queue.state.Queue.with_front.Goals.{then-is-full-via-then-is-full, then-is-full-via-else-is-full+then-not-in-range}
+use Rattle.kinds.proofs.queue.state.Queue.with_front.Goals.{then-is_full-via-then-is_full, then-is_full-via-else-is_full+then-not-in_range}
 
-pub returns-then-is-full : goal.returns-then-is-full
-returns-then-is-full c =
+pub returns-then-is_full : goal.returns-then-is_full
+returns-then-is_full c =
     let q = c.args.self in
     let n = c.args.n in
-    elim c.then-is-full.branch [
-      | then-is-full-via-then-is-full w ↦ front_full q n (sym c.is-full.ensures ∙ w.if-is-full.true)
-      | then-is-full-via-else-is-full+then-not-in-range w ↦ front_above q n (sym c.is-full.ensures ∙ w.if-is-full.false) (sym w.in-range.ensures ∙ w.if-not-in-range.true)
+    elim c.then-is_full.branch [
+      | then-is_full-via-then-is_full w ↦ front_full q n (sym c.is_full.ensures ∙ w.if-is_full.true)
+      | then-is_full-via-else-is_full+then-not-in_range w ↦ front_above q n (sym c.is_full.ensures ∙ w.if-is_full.false) (sym w.in_range.ensures ∙ w.if-not-in_range.true)
     ]
 
 pub returns : goal.returns
-returns c = turned_into c.args.self c.with-entry.result _ c.with-entry.ensures
+returns c = turned_into c.args.self c.with_entry.result _ c.with_entry.ensures

@@ -6,4 +6,4 @@ pub returns-then-count-eq0 : goal.returns-then-count-eq0
 returns-then-count-eq0 c = back_none c.args.self (no_entries c.args.self c.if-count-eq0.true)
 
 pub returns : goal.returns
-returns c = back_some c.args.self c.without-entry.result (omega arith) c.without-entry.ensures
+returns c = back_some c.args.self c.without_entry.result (omega arith) c.without_entry.ensures

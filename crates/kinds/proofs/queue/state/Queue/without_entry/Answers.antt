@@ -1,8 +1,8 @@
 use Rattle.kinds.specs.QueueLaws.{entry_out}
 use Rattle.kinds.proofs.queue.state.Queue.without_entry.Goals as goal
 
-pub invariant-of-result : goal.invariant-of-result
-invariant-of-result c = ((entry_out c.args.self c.args.at _ c.requires c.pull-out.ensures).0, tt)
+pub invariant_of-result : goal.invariant_of-result
+invariant_of-result c = record { sound = (entry_out c.args.self c.args.at _ c.requires c.pull_out.ensures).0 }
 
 pub returns : goal.returns
-returns c = (entry_out c.args.self c.args.at _ c.requires c.pull-out.ensures).1
+returns c = (entry_out c.args.self c.args.at _ c.requires c.pull_out.ensures).1

@@ -4,8 +4,8 @@ use Rattle.kinds.specs.RollRows.{rising}
 use Rattle.kinds.specs.RollLaws.{read_own, unread}
 use Rattle.kinds.proofs.roll.state.Roll.read.Goals as goal
 
-pub returns-then-not-is-packed : goal.returns-then-not-is-packed
-returns-then-not-is-packed c = sym (unread c.args.row (and_left _ _ (sym c.if-not-is-packed.ensures)))
+pub returns-then-not-is_packed : goal.returns-then-not-is_packed
+returns-then-not-is_packed c = sym (unread c.args.row (and_left _ _ (sym c.if-not-is_packed.ensures)))
 
 pub returns-then-not-rises : goal.returns-then-not-rises
 returns-then-not-rises c =

@@ -3,12 +3,12 @@ use Rattle.kinds.specs.declared.tally.operation.TallyOperation.TheVariants.{Add}
 use Rattle.kinds.specs.TallyLaws.{refused, accepted, after_value}
 use Rattle.kinds.proofs.tally.state.Tally.add.Goals as goal
 
-pub returns-then-not-has-room : goal.returns-then-not-has-room
-returns-then-not-has-room c =
-    let e = c.no.ensures ∙ sym (refused c.args.self _ _ _ (sym c.if-not-has-room.ensures)) in
+pub returns-then-not-has_room : goal.returns-then-not-has_room
+returns-then-not-has_room c =
+    let e = c.no.ensures ∙ sym (refused c.args.self _ _ _ (sym c.if-not-has_room.ensures)) in
     record { outcome = e; after = after_value c.args.self (Add c.args.n) _ e }
 
 pub returns : goal.returns
 returns c =
-    let e = c.yes.ensures ∙ sym (accepted c.args.self _ _ _ (sym c.if-not-has-room.ensures) refl) in
+    let e = c.yes.ensures ∙ sym (accepted c.args.self _ _ _ (sym c.if-not-has_room.ensures) refl) in
     record { outcome = e; after = after_value c.args.self (Add c.args.n) _ e }
