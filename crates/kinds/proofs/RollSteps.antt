@@ -15,8 +15,8 @@ use Rattle.kinds.specs.RollRows.{rising}
 use Rattle.kinds.specs.RollPlaces.{smaller, placed, place_of}
 use Rattle.kinds.specs.Rolls.{entry, marks, found, marked, without, find_after, mark_after, marks_after, numbers_after, roll_of}
 use Rattle.kinds.specs.ShortLists.{room}
-use Rattle.kinds.specs.Rising
-use Rattle.kinds.specs.RollLaws.{roll_held, marks_length, left_own, turned_into, unmade}
+use Rattle.kinds.specs.Laws.Rising
+use Rattle.kinds.specs.Laws.RollLaws.{roll_held, marks_length, left_own, turned_into, unmade}
 
 -- a place in the row is a place among the entries
 pub mark_at : (r : Roll) (at : ℕ) (d : Entry) → at < r.row.count → get_or r.row.places at d ≡ get_or (marks r) at d

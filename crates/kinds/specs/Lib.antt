@@ -1,4 +1,5 @@
 pub mod Joins
+pub mod Laws
 pub mod Operations
 pub mod Outcomes
 pub mod QueueRows
@@ -9,15 +10,3 @@ pub mod Rolls
 pub mod Rows
 pub mod ShortLists
 pub mod Tallies
-pub mod Sides
-pub mod QueueDuties
-pub mod QueueLaws
-pub mod Alls
-pub mod Checks
-pub mod Packing
-pub mod Tables
-pub mod Fitting
-pub mod RollDuties
-pub mod Rising
-pub mod RollLaws
-pub mod TallyLaws

@@ -2,7 +2,7 @@
 ghost use Rattle.kinds.specs.Joins.{either_class, either_acts, either_uses, either_records, either_undone, either_rowed, either_reads, lifted};
 ghost use Rattle.std.proofs.Common.{ap, rules};
 ghost use Rattle.kinds.specs.declared.either.Either.TheVariants.{Left, Right};
-ghost use Rattle.kinds.specs.Sides.{left_some, right_some, left_not_right, right_not_left};
+ghost use Rattle.kinds.specs.Laws.Sides.{left_some, right_some, left_not_right, right_not_left};
 
 use crate::answer::{Class, Outcome};
 use crate::kind::Kind;

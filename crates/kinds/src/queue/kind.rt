@@ -2,10 +2,10 @@
 ghost use Rattle.std.specs.Prelude.{◌≡◌};
 ghost use Rattle.kinds.specs.Outcomes.{turned, content_after};
 ghost use Rattle.kinds.specs.Queues.{queue_operation, queue_uses, queue_class, queue_of, read_queue, entries, queue_acts, entries_after, end_move, entries_before};
-ghost use Rattle.kinds.specs.QueueDuties.{read_leaves_state, no_leaves_state, undo_leads_back, operation_in_range};
-ghost use Rattle.kinds.specs.QueueLaws.{read_own, read_row};
-ghost use Rattle.kinds.specs.Checks.{rows_tell};
-ghost use Rattle.std.proofs.Common.{rules, arith};
+ghost use Rattle.kinds.specs.Laws.QueueDuties.{read_leaves_state, no_leaves_state, undo_leads_back, operation_in_range};
+ghost use Rattle.kinds.specs.Laws.QueueLaws.{read_own, read_row};
+ghost use Rattle.kinds.specs.Laws.Checks.{rows_tell};
+ghost use Rattle.std.proofs.Common.{rules};
 
 use super::operation::{EndMove, QueueOperation};
 use super::state::Queue;
@@ -33,15 +33,15 @@ impl Kind for Queue {
 
     ghost reads = { read_queue };
 
-    ghost class_stays = { first_of (Prim.search rules, Prim.grind (arith, Self.row.coded.inj)) };
+    ghost class_stays = { Prim.search rules };
 
     ghost read_stays = { λ q o e. read_leaves_state q (queue_operation o) e };
 
-    ghost unknown_stays = { first_of (Prim.search rules, Prim.grind (arith, Self.row.coded.inj)) };
+    ghost unknown_stays = { Prim.search rules };
 
     ghost no_stays = { λ q o e. no_leaves_state q (queue_operation o) e };
 
-    ghost misfit_unknown = { first_of (Prim.search rules, Prim.grind (arith, Self.row.coded.inj)) };
+    ghost misfit_unknown = { Prim.search rules };
 
     ghost undo_restores = { λ q o e. undo_leads_back q (queue_operation o) (operation_in_range o) e };
 

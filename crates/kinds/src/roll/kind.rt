@@ -2,10 +2,10 @@
 ghost use Rattle.std.specs.Prelude.{◌≡◌};
 ghost use Rattle.kinds.specs.Outcomes.{turned, content_after};
 ghost use Rattle.kinds.specs.Rolls.{roll_operation, roll_uses, roll_class, roll_of, read_roll, marks, roll_acts, marks_after, former, marks_before};
-ghost use Rattle.kinds.specs.RollDuties.{read_leaves_state, no_leaves_state, undo_leads_back, operation_in_range};
-ghost use Rattle.kinds.specs.RollLaws.{read_own, read_row};
-ghost use Rattle.kinds.specs.Checks.{rows_tell};
-ghost use Rattle.std.proofs.Common.{rules, arith};
+ghost use Rattle.kinds.specs.Laws.RollDuties.{read_leaves_state, no_leaves_state, undo_leads_back, operation_in_range};
+ghost use Rattle.kinds.specs.Laws.RollLaws.{read_own, read_row};
+ghost use Rattle.kinds.specs.Laws.Checks.{rows_tell};
+ghost use Rattle.std.proofs.Common.{rules};
 
 use super::entry::{Entry, Former};
 use super::operation::RollOperation;
@@ -34,15 +34,15 @@ impl Kind for Roll {
 
     ghost reads = { read_roll };
 
-    ghost class_stays = { first_of (Prim.search rules, Prim.grind (arith, Self.row.coded.inj)) };
+    ghost class_stays = { Prim.search rules };
 
     ghost read_stays = { λ r o e. read_leaves_state r (roll_operation o) e };
 
-    ghost unknown_stays = { first_of (Prim.search rules, Prim.grind (arith, Self.row.coded.inj)) };
+    ghost unknown_stays = { Prim.search rules };
 
     ghost no_stays = { λ r o e. no_leaves_state r (roll_operation o) e };
 
-    ghost misfit_unknown = { first_of (Prim.search rules, Prim.grind (arith, Self.row.coded.inj)) };
+    ghost misfit_unknown = { Prim.search rules };
 
     ghost undo_restores = { λ r o e. undo_leads_back r (roll_operation o) (operation_in_range o) e };
 

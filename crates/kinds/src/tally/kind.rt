@@ -2,9 +2,9 @@
 ghost use Rattle.kinds.specs.Tallies.{tally_operation, tally_uses, tally_class, tally_at, tally_acts, value_after, amount, value_undone};
 ghost use Rattle.std.specs.Prelude.{◌≡◌};
 ghost use Rattle.kinds.specs.Outcomes.{turned, content_after};
-ghost use Rattle.kinds.specs.TallyLaws.{read_leaves_state, no_leaves_state, undo_leads_back, tally_at_own, tally_at_value};
-ghost use Rattle.kinds.specs.Checks.{rows_tell};
-ghost use Rattle.std.proofs.Common.{rules, arith};
+ghost use Rattle.kinds.specs.Laws.TallyLaws.{read_leaves_state, no_leaves_state, undo_leads_back, tally_at_own, tally_at_value};
+ghost use Rattle.kinds.specs.Laws.Checks.{rows_tell};
+ghost use Rattle.std.proofs.Common.{rules};
 
 use super::operation::TallyOperation;
 use super::state::Tally;
@@ -32,15 +32,15 @@ impl Kind for Tally {
 
     ghost reads = { tally_at };
 
-    ghost class_stays = { first_of (Prim.search rules, Prim.grind (arith, Self.row.coded.inj)) };
+    ghost class_stays = { Prim.search rules };
 
     ghost read_stays = { λ t o e. read_leaves_state t (tally_operation o) e };
 
-    ghost unknown_stays = { first_of (Prim.search rules, Prim.grind (arith, Self.row.coded.inj)) };
+    ghost unknown_stays = { Prim.search rules };
 
     ghost no_stays = { λ t o e. no_leaves_state t (tally_operation o) e };
 
-    ghost misfit_unknown = { first_of (Prim.search rules, Prim.grind (arith, Self.row.coded.inj)) };
+    ghost misfit_unknown = { Prim.search rules };
 
     ghost undo_restores = { λ t o e. undo_leads_back t (tally_operation o) e };
 

@@ -1,6 +1,6 @@
 use Rattle.std.proofs.Common.{sym}
 use Rattle.kinds.specs.Operations.{ranged}
-use Rattle.kinds.specs.Alls.{all_stops, all_goes_on, all_ends}
+use Rattle.kinds.specs.Laws.Alls.{all_stops, all_goes_on, all_ends}
 use Rattle.kinds.proofs.queue.methods.all_ranged.Goals as goal
 
 pub returns-then-not-in_range : goal.returns-then-not-in_range

@@ -1,5 +1,5 @@
 use Rattle.std.proofs.Common.{sym, ap, ◌∙◌}
-use Rattle.kinds.specs.Alls.{all_stops, all_goes_on, all_ends}
+use Rattle.kinds.specs.Laws.Alls.{all_stops, all_goes_on, all_ends}
 use Rattle.kinds.proofs.short_list.methods.all_blank.Goals as goal
 
 pub returns-then-not-is_blank : goal.returns-then-not-is_blank

@@ -1,7 +1,7 @@
 use Rattle.std.proofs.Common.{◌≡◌, length, sym, ap, ◌∙◌, arith}
 use Rattle.std.proofs.lemmas.List.{take_rest}
 use Rattle.kinds.specs.ShortLists.{all}
-use Rattle.kinds.specs.Packing.{packs_is}
+use Rattle.kinds.specs.Laws.Packing.{packs_is}
 use Rattle.kinds.proofs.short_list.methods.blank_past.Goals as goal
 
 pub returns : goal.returns

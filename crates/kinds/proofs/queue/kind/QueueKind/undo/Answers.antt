@@ -1,5 +1,5 @@
 use Rattle.std.proofs.Common.{rules}
-use Rattle.kinds.specs.QueueLaws.{turned_stays}
+use Rattle.kinds.specs.Laws.QueueLaws.{turned_stays}
 use Rattle.kinds.proofs.queue.kind.QueueKind.undo.Goals as goal
 
 pub returns-in-Stayed : goal.returns-in-Stayed

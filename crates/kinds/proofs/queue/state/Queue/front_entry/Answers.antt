@@ -1,6 +1,6 @@
 use Rattle.std.proofs.Common.{sym, ap, arith}
 use Rattle.kinds.specs.Queues.{front_of}
-use Rattle.kinds.specs.QueueLaws.{no_entries, front_entry}
+use Rattle.kinds.specs.Laws.QueueLaws.{no_entries, front_entry}
 use Rattle.kinds.proofs.queue.state.Queue.front_entry.Goals as goal
 
 pub returns-then-self-eq0 : goal.returns-then-self-eq0

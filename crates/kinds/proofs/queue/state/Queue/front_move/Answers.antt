@@ -1,5 +1,5 @@
 use Rattle.kinds.specs.Queues.{entries}
-use Rattle.kinds.specs.QueueLaws.{front_some_is, front_none_is, move_none, move_some}
+use Rattle.kinds.specs.Laws.QueueLaws.{front_some_is, front_none_is, move_none, move_some}
 use Rattle.kinds.proofs.queue.state.Queue.front_move.Goals as goal
 
 pub returns-in-Some : goal.returns-in-Some

@@ -1,8 +1,8 @@
 use Rattle.std.proofs.Common.{sym, ◌∙◌}
 use Rattle.kinds.specs.Queues.{entries}
 use Rattle.kinds.specs.declared.queue.operation.QueueOperation.TheVariants.{Next}
-use Rattle.kinds.specs.QueueLaws.{front_some_is, front_none_is, next_none, next_some}
-use Rattle.kinds.specs.QueueDuties.{after_entries}
+use Rattle.kinds.specs.Laws.QueueLaws.{front_some_is, front_none_is, next_none, next_some}
+use Rattle.kinds.specs.Laws.QueueDuties.{after_entries}
 use Rattle.kinds.proofs.queue.state.Queue.next.Goals as goal
 
 pub returns-in-Some : goal.returns-in-Some

@@ -1,7 +1,7 @@
 use Rattle.std.proofs.Common.{sym, ◌∙◌}
 use Rattle.kinds.specs.declared.queue.operation.QueueOperation.TheVariants.{Put}
-use Rattle.kinds.specs.QueueLaws.{put_none, put_some}
-use Rattle.kinds.specs.QueueDuties.{after_entries}
+use Rattle.kinds.specs.Laws.QueueLaws.{put_none, put_some}
+use Rattle.kinds.specs.Laws.QueueDuties.{after_entries}
 use Rattle.kinds.proofs.queue.state.Queue.put.Goals as goal
 
 pub returns-then-is_full : goal.returns-then-is_full

@@ -2,7 +2,7 @@ use Rattle.std.proofs.Common.{◌≡◌, ℕ, ◌-◌, take, sym, ap, ◌∙◌,
 use Rattle.std.proofs.lemmas.Bool.{and_left, and_right}
 use Rattle.kinds.specs.Operations.{ranged}
 use Rattle.kinds.specs.ShortLists.{all}
-use Rattle.kinds.specs.QueueLaws.{read_own, unread}
+use Rattle.kinds.specs.Laws.QueueLaws.{read_own, unread}
 use Rattle.kinds.proofs.queue.state.Queue.read.Goals as goal
 
 pub returns-then-not-is_packed : goal.returns-then-not-is_packed

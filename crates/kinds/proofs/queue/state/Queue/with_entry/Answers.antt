@@ -1,4 +1,4 @@
-use Rattle.kinds.specs.QueueLaws.{entry_in}
+use Rattle.kinds.specs.Laws.QueueLaws.{entry_in}
 use Rattle.kinds.proofs.queue.state.Queue.with_entry.Goals as goal
 
 pub invariant_of-result : goal.invariant_of-result

@@ -1,5 +1,5 @@
 use Rattle.std.proofs.Common.{sym, ◌∙◌}
-use Rattle.kinds.specs.QueueLaws.{front_full, front_above, turned_into}
+use Rattle.kinds.specs.Laws.QueueLaws.{front_full, front_above, turned_into}
 use Rattle.kinds.proofs.queue.state.Queue.with_front.Goals as goal
 use Rattle.kinds.proofs.queue.state.Queue.with_front.Goals.{then-is_full-via-then-is_full, then-is_full-via-else-is_full+then-not-in_range}
 

@@ -1,5 +1,5 @@
 use Rattle.std.proofs.Common.{arith}
-use Rattle.kinds.specs.QueueLaws.{no_entries, back_none, back_some}
+use Rattle.kinds.specs.Laws.QueueLaws.{no_entries, back_none, back_some}
 use Rattle.kinds.proofs.queue.state.Queue.without_back.Goals as goal
 
 pub returns-then-count-eq0 : goal.returns-then-count-eq0

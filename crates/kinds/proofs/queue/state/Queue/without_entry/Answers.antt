@@ -1,4 +1,4 @@
-use Rattle.kinds.specs.QueueLaws.{entry_out}
+use Rattle.kinds.specs.Laws.QueueLaws.{entry_out}
 use Rattle.kinds.proofs.queue.state.Queue.without_entry.Goals as goal
 
 pub invariant_of-result : goal.invariant_of-result

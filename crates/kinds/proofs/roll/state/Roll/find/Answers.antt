@@ -1,5 +1,5 @@
 use Rattle.std.proofs.Common.{sym, ◌∙◌}
-use Rattle.kinds.specs.RollDuties.{after_find}
+use Rattle.kinds.specs.Laws.RollDuties.{after_find}
 use Rattle.kinds.proofs.RollSteps.{find_some, find_none}
 use Rattle.kinds.proofs.roll.state.Roll.find.Goals as goal
 

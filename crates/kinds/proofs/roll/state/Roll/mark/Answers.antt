@@ -2,7 +2,7 @@ use Rattle.std.proofs.Common.{ℕ, sym, ap, ◌∙◌, arith}
 use Rattle.std.proofs.lemmas.Bool.{leb-false}
 use Rattle.kinds.specs.Outcomes.{yes_to}
 use Rattle.kinds.specs.Rolls.{entry}
-use Rattle.kinds.specs.RollDuties.{after_mark}
+use Rattle.kinds.specs.Laws.RollDuties.{after_mark}
 use Rattle.kinds.proofs.RollSteps.{set_there, set_rises, mark_present, in_there, in_rises, mark_absent, mark_full, yes_finds, no_finds}
 use Rattle.kinds.proofs.roll.state.Roll.mark.Goals as goal
 

@@ -1,7 +1,7 @@
 use Rattle.std.proofs.Common.{◌≡◌, ℕ, ◌-◌, take, sym, ap, ◌∙◌, arith}
 use Rattle.std.proofs.lemmas.Bool.{and_left, and_right}
 use Rattle.kinds.specs.RollRows.{rising}
-use Rattle.kinds.specs.RollLaws.{read_own, unread}
+use Rattle.kinds.specs.Laws.RollLaws.{read_own, unread}
 use Rattle.kinds.proofs.roll.state.Roll.read.Goals as goal
 
 pub returns-then-not-is_packed : goal.returns-then-not-is_packed

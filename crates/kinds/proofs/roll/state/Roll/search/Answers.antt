@@ -2,8 +2,8 @@ use Rattle.std.proofs.Common.{◌≡◌, ℕ, ◌-◌, ◌<◌, get_or, take, ap
 use Rattle.kinds.specs.declared.roll.state.Roll.{Roll}
 use Rattle.kinds.specs.RollPlaces.{smaller}
 use Rattle.kinds.specs.Rolls.{entry, marks}
-use Rattle.kinds.specs.Rising.{smaller_within}
-use Rattle.kinds.specs.RollLaws.{marks_length}
+use Rattle.kinds.specs.Laws.Rising.{smaller_within}
+use Rattle.kinds.specs.Laws.RollLaws.{marks_length}
 use Rattle.kinds.proofs.RollSteps.{place_present, place_absent}
 use Rattle.kinds.proofs.roll.state.Roll.search.Goals as goal
 use Rattle.kinds.proofs.roll.state.Roll.search.Goals.{else-at-count-via-then-at-count+else-places-at, else-at-count-via-else-at-count}

@@ -1,4 +1,4 @@
-use Rattle.kinds.specs.RollLaws.{entry_in}
+use Rattle.kinds.specs.Laws.RollLaws.{entry_in}
 use Rattle.kinds.proofs.roll.state.Roll.with_entry.Goals as goal
 
 pub invariant_of-result : goal.invariant_of-result

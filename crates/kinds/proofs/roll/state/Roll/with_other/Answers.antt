@@ -1,4 +1,4 @@
-use Rattle.kinds.specs.RollLaws.{entry_set}
+use Rattle.kinds.specs.Laws.RollLaws.{entry_set}
 use Rattle.kinds.proofs.roll.state.Roll.with_other.Goals as goal
 
 pub invariant_of-result : goal.invariant_of-result

@@ -1,4 +1,4 @@
-use Rattle.kinds.specs.RollLaws.{entry_out}
+use Rattle.kinds.specs.Laws.RollLaws.{entry_out}
 use Rattle.kinds.proofs.roll.state.Roll.without_entry.Goals as goal
 
 pub invariant_of-result : goal.invariant_of-result

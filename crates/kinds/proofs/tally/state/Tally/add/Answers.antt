@@ -1,6 +1,6 @@
 use Rattle.std.proofs.Common.{sym, refl, ◌∙◌}
 use Rattle.kinds.specs.declared.tally.operation.TallyOperation.TheVariants.{Add}
-use Rattle.kinds.specs.TallyLaws.{refused, accepted, after_value}
+use Rattle.kinds.specs.Laws.TallyLaws.{refused, accepted, after_value}
 use Rattle.kinds.proofs.tally.state.Tally.add.Goals as goal
 
 pub returns-then-not-has_room : goal.returns-then-not-has_room

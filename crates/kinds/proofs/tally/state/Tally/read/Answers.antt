@@ -1,5 +1,5 @@
 use Rattle.std.proofs.Common.{sym}
-use Rattle.kinds.specs.TallyLaws.{tally_at_own, out_of_range}
+use Rattle.kinds.specs.Laws.TallyLaws.{tally_at_own, out_of_range}
 use Rattle.kinds.proofs.tally.state.Tally.read.Goals as goal
 
 pub returns-then-not-in_range : goal.returns-then-not-in_range

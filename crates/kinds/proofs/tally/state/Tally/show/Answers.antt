@@ -1,6 +1,6 @@
 use Rattle.std.proofs.Common.{sym, refl, ◌∙◌}
 use Rattle.kinds.specs.declared.tally.operation.TallyOperation.TheVariants.{Show}
-use Rattle.kinds.specs.TallyLaws.{left_own, after_value}
+use Rattle.kinds.specs.Laws.TallyLaws.{left_own, after_value}
 use Rattle.kinds.proofs.tally.state.Tally.show.Goals as goal
 
 pub returns : goal.returns

@@ -1,6 +1,6 @@
 use Rattle.std.proofs.Common.{sym, refl, ◌∙◌}
 use Rattle.kinds.specs.declared.tally.operation.TallyOperation.TheVariants.{Take}
-use Rattle.kinds.specs.TallyLaws.{refused, accepted, after_value}
+use Rattle.kinds.specs.Laws.TallyLaws.{refused, accepted, after_value}
 use Rattle.kinds.proofs.tally.state.Tally.take.Goals as goal
 
 pub returns-then-not-covers : goal.returns-then-not-covers

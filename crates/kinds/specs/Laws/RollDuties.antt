@@ -18,10 +18,10 @@ use Rattle.kinds.specs.RollRows.{rising}
 use Rattle.kinds.specs.RollPlaces.{smaller}
 use Rattle.kinds.specs.Rolls.{entry, marks, found, find_after, mark_after, marks_after, marks_before, put_back, former, RollBound, roll_class, roll_operation, roll_of}
 use Rattle.kinds.specs.ShortLists.{room}
-use Rattle.kinds.specs.Fitting.{fits_first, fits_second}
-use Rattle.kinds.specs.Rising
-use Rattle.kinds.specs.RollLaws.{roll_own, roll_held, roll_made, marks_length}
-use Rattle.kinds.specs.Tables as tables
+use Rattle.kinds.specs.Laws.Fitting.{fits_first, fits_second}
+use Rattle.kinds.specs.Laws.Rising
+use Rattle.kinds.specs.Laws.RollLaws.{roll_own, roll_held, roll_made, marks_length}
+use Rattle.kinds.specs.Laws.Tables as tables
 
 -- a FIND changes no entries
 find_keeps : (o : Option ℕ) (es : List Entry) → (find_after o es).1 ≡ es

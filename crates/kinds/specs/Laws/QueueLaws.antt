@@ -16,10 +16,10 @@ use Rattle.kinds.specs.Queues.{entries, front_of, entries_after, entries_before,
 use Rattle.kinds.specs.ShortLists.{room, items, packed, all}
 use Rattle.kinds.specs.declared.queue.operation.QueueOperation.TheVariants.{Front, Put, Next}
 use Rattle.kinds.specs.declared.queue.operation.EndMove.TheVariants.{Stayed, BackJoined, FrontLeft}
-use Rattle.kinds.specs.Alls.{all_inserted, all_removed}
-use Rattle.kinds.specs.Checks.{checked_passes, checked_fails, checked_made}
-use Rattle.kinds.specs.Packing as packing
-use Rattle.kinds.specs.Tables as tables
+use Rattle.kinds.specs.Laws.Alls.{all_inserted, all_removed}
+use Rattle.kinds.specs.Laws.Checks.{checked_passes, checked_fails, checked_made}
+use Rattle.kinds.specs.Laws.Packing as packing
+use Rattle.kinds.specs.Laws.Tables as tables
 
 inserted_end : {T : Type 0} (xs : List T) (x : T) → insert xs (length xs) x ≡ xs ++ x ∷ []
 inserted_end [] x = refl

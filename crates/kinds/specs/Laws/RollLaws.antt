@@ -12,9 +12,9 @@ use Rattle.kinds.specs.Outcomes.{turned, left_by}
 use Rattle.kinds.specs.RollRows.{blank_entry, rising, is_roll}
 use Rattle.kinds.specs.Rolls.{entry, marks, read_roll, roll_of}
 use Rattle.kinds.specs.ShortLists.{room, items, packed}
-use Rattle.kinds.specs.Checks.{checked_passes, checked_fails, checked_made}
-use Rattle.kinds.specs.Packing as packing
-use Rattle.kinds.specs.Tables as tables
+use Rattle.kinds.specs.Laws.Checks.{checked_passes, checked_fails, checked_made}
+use Rattle.kinds.specs.Laws.Packing as packing
+use Rattle.kinds.specs.Laws.Tables as tables
 
 only_blank : (e : Entry) → blank_entry e ≡ true → e ≡ entry 0 0
 only_blank e h =

@@ -16,9 +16,9 @@ use Rattle.kinds.specs.Outcomes.{turned, left_by, by_table}
 use Rattle.kinds.specs.Operations.{ranged}
 use Rattle.kinds.specs.Queues.{entries, entries_after, entries_before, end_move, QueueBound, queue_class, queue_operation, queue_of}
 use Rattle.kinds.specs.ShortLists.{room, all}
-use Rattle.kinds.specs.QueueLaws.{queue_own, queue_held, queue_made, entries_length}
-use Rattle.kinds.specs.Fitting.{fits_first}
-use Rattle.kinds.specs.Tables as tables
+use Rattle.kinds.specs.Laws.QueueLaws.{queue_own, queue_held, queue_made, entries_length}
+use Rattle.kinds.specs.Laws.Fitting.{fits_first}
+use Rattle.kinds.specs.Laws.Tables as tables
 
 -- a no changes no entries
 no_keeps : (xs : List ℕ) (p : QueueOperation) → (entries_after xs p).0 ≡ No → (entries_after xs p).1 ≡ xs

@@ -12,8 +12,8 @@ use Rattle.kinds.specs.declared.tally.operation.TallyOperation.TheVariants.{Show
 use Rattle.kinds.specs.Operations.{largest, ranged}
 use Rattle.kinds.specs.Outcomes.{turned, yes_to, no_to, left_by, by_table}
 use Rattle.kinds.specs.Tallies.{tally_at, tally_class, value_after, amount, value_undone}
-use Rattle.kinds.specs.Checks.{checked_passes, checked_fails, checked_made}
-use Rattle.kinds.specs.Tables as tables
+use Rattle.kinds.specs.Laws.Checks.{checked_passes, checked_fails, checked_made}
+use Rattle.kinds.specs.Laws.Tables as tables
 
 -- a tally is the one made of its value
 pub tally_at_own : (t : Tally) → tally_at t.value ≡ Some t
