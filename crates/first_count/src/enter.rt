@@ -26,8 +26,8 @@ pub enum Reply {
 
 // What an object replies to an entry, and its state after.
 fn perform<K: Kind>(state: K, entry: Entry) -> (Reply, K)
-    ensures reply { result.0 ≡ reply_of (classed state «entry».operation) «entry».undo (acts state «entry».operation).answer }
-    ensures next { result.1 ≡ state_after «entry».undo state (acts state «entry».operation) }
+    ensures reply { result.0 ≡ reply_of (K.classed state «entry».operation) «entry».undo (K.acts state «entry».operation).answer }
+    ensures next { result.1 ≡ state_after «entry».undo state (K.acts state «entry».operation) }
 {
     let operation = entry.operation;
     let done = state.act(operation);
@@ -47,7 +47,7 @@ fn perform<K: Kind>(state: K, entry: Entry) -> (Reply, K)
 // An entry on one of some objects; the others stay.
 pub(crate) fn enter<K: Kind>(objects: &mut [K], entry: Entry) -> Reply
     ensures missing { length objects.old ≤ «entry».object → (result ≡ Missing) × (objects.new ≡ objects.old) }
-    ensures there { (k : K) → «entry».object < length objects.old → k ≡ slice_index_or objects.old «entry».object k → (result ≡ reply_of (classed k «entry».operation) «entry».undo (acts k «entry».operation).answer) × (objects.new ≡ slice_set objects.old «entry».object (state_after «entry».undo k (acts k «entry».operation))) }
+    ensures there { (k : K) → «entry».object < length objects.old → k ≡ slice_index_or objects.old «entry».object k → (result ≡ reply_of (K.classed k «entry».operation) «entry».undo (K.acts k «entry».operation).answer) × (objects.new ≡ slice_set objects.old «entry».object (state_after «entry».undo k (K.acts k «entry».operation))) }
 {
     let at = entry.object;
     if at >= objects.len() {

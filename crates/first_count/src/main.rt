@@ -1,4 +1,6 @@
 // A first count: one counter enters one bundle, and each answer and closing state is printed.
+#![tactic(auto)]
+
 mod enter;
 mod entries;
 mod words;
