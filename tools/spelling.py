@@ -47,8 +47,9 @@ def imports(text):
         yield m[1], [n.strip().split(" as ")[0] for n in (m[2] or "").split(",") if n.strip()]
 
 
-def is_lemma_file(path):
-    return not re.search(r"/(Answers|Invariants|Proof)\.antt$", path)
+def is_lemma_file(text):
+    """Whether a file of antt is not one that answers a function's goals."""
+    return not re.search(r"\.(Goals|Given|Needs) as |\.(Goals|Given|Needs)\.", text)
 
 
 def words(text):
@@ -59,13 +60,13 @@ def local_names(path, text):
     """The names to turn in one file of antt."""
     foreign = {n for p, ns in imports(text) if not own(p) for n in ns}
     mine = {n for p, ns in imports(text) if own(p) for n in ns}
-    if is_lemma_file(path):
+    if is_lemma_file(text):
         names = {w for w in words(text) if DASHED.match(w)} - foreign
     else:
         heads = set(re.findall(r"^(?:pub )?(\S+) : (?!goal\.)", text, re.M))
         names = {w for w in mine | heads if DASHED.match(w)} - foreign
     if path.startswith("crates/kinds/"):
-        names |= {n for n in LAWS if n in mine or (is_lemma_file(path) and re.search(rf"^pub {n} :", text, re.M))}
+        names |= {n for n in LAWS if n in mine or (is_lemma_file(text) and re.search(rf"^pub {n} :", text, re.M))}
     return names
 
 
@@ -102,7 +103,7 @@ def main():
         with open(path) as f:
             text = f.read()
         texts[path], table = antt(path, text)
-        if is_lemma_file(path):
+        if is_lemma_file(text):
             known.update(table)
             was = set(words(text)) - set(table)
             for old, new in sorted(table.items()):

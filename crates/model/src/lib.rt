@@ -1,4 +1,6 @@
 // What everything means, and why it is right: one call's meaning, and the laws of every list of calls.
+#![tactic(auto)]
+
 pub mod call;
 pub mod every_run;
 pub mod facts;
