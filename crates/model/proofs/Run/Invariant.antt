@@ -6,7 +6,6 @@ use Rattle.kinds.specs.declared.answer.Class.TheVariants as classes
 use Rattle.kinds.specs.declared.answer.Outcome.{Outcome}
 use Rattle.kinds.specs.declared.operation.Operation.{Operation}
 use Rattle.model.specs.declared.facts.Facts.{Facts}
-use Rattle.model.specs.declared.lock.Mode.TheVariants.{Read}
 use Rattle.model.specs.declared.lock.Wait.{Wait}
 use Rattle.model.specs.Histories.{Account, Asked, class_at, class_of, in_order}
 use Rattle.model.specs.Model.{Setting}
