@@ -6,7 +6,7 @@
 -- | facts_told      | a transaction's facts, by a history |
 -- | Told            | what a history tells is what the state holds |
 -- | Serial          | the kept steps have the answers and the end of a serial run |
--- | FreeOfDeadlock   | nobody is deadlocked |
+-- | FreeOfDeadlock  | nobody is deadlocked |
 -- | Names           | a deadlock break names and aborts one who goes before all others |
 -- | RightVictim     | a deadlock break names the right one, or says none |
 -- | CanGoOn         | a transaction's commit would be accepted, or its waiting step not told to wait |
