@@ -85,12 +85,12 @@ def antt(path, text):
         elif not line.lstrip().startswith("--"):
             line = replaced(line, table)
         else:
-            line = re.sub(r"`[^`]*`", lambda m: replaced(m[0][:1], {}) + replaced(m[0][1:-1], table) + "`", line)
+            line = re.sub(r"`[^`]*`", lambda m: "`" + replaced(m[0][1:-1], table) + "`", line)
         out.append(line)
     return "\n".join(out), table
 
 
-def rust(path, text, known):
+def rust(text, known):
     mine = {n for p, ns in imports(text) if own(p) for n in ns}
     table = {n: turned(n) for n in mine if DASHED.match(n) and (n in known or n in LAWS)}
     lines = text.split("\n")
@@ -111,7 +111,7 @@ def main():
                     print(f"{path}: {old} falls together with {new}")
     for path in sorted(glob.glob("crates/*/src/**/*.rt", recursive=True)):
         with open(path) as f:
-            texts[path] = rust(path, f.read(), known)
+            texts[path] = rust(f.read(), known)
     for path in sorted(glob.glob("crates/*/must-fail/*.edit")):
         with open(path) as f:
             text = f.read()
