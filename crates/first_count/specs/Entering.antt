@@ -4,7 +4,7 @@
 -- | reply_of    | what an object replies |
 -- | state_after | its state after |
 use Rattle.std.specs.Prelude.{ℕ, Bool, cond}
-use Rattle.kinds.specs.declared.answer.Answer.{Answer}
+use Rattle.kinds.specs.Outcomes.{Answer}
 use Rattle.kinds.specs.declared.answer.Class.{Class}
 use Rattle.kinds.specs.declared.answer.Class.TheVariants.{Unknown, Read, Write}
 use Rattle.kinds.specs.declared.answer.Outcome.{Outcome}

@@ -3,7 +3,8 @@ ghost use Rattle.std.specs.Prelude.{◌≡◌, true, false};
 ghost use Rattle.first_count.specs.Entering.{entry_of};
 
 use crate::enter::Entry;
-use kinds::either::{Either, Object};
+use either::Either;
+use kinds::join::Object;
 use kinds::operation::Operation;
 use kinds::queue::{FRONT, NEXT, PUT, Queue};
 use kinds::roll::{FIND, MARK, Roll};

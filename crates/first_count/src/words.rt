@@ -1,7 +1,8 @@
 // Entries, replies and closing states in script words.
 use crate::enter::{Entry, Reply};
 use kinds::answer::Answer;
-use kinds::either::{Either, Object};
+use either::Either;
+use kinds::join::Object;
 use kinds::kind::Kind;
 use kinds::operation::Operation;
 use kinds::queue::{FRONT, NEXT, PUT, Queue};
@@ -82,8 +83,8 @@ fn show_reply<W: fmt::Write>(reply: Reply, f: &mut fmt::Formatter<W>) -> fmt::Re
 
 fn show_answer<W: fmt::Write>(answer: Answer, f: &mut fmt::Formatter<W>) -> fmt::Result {
     match answer {
-        Answer::Yes(n) => write!(f, "yes {n}"),
-        Answer::No => write!(f, "no"),
+        Some(n) => write!(f, "yes {n}"),
+        None => write!(f, "no"),
     }
 }
 

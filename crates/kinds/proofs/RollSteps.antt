@@ -4,7 +4,6 @@ use Rattle.std.specs.List.{insert, remove}
 use Rattle.std.proofs.lemmas.List.{get_or-take}
 use Rattle.std.proofs.lemmas.Bool.{lt-ltb, le-ltb, ltb-false, leb-true, leb-false, cases_Bool}
 use Rattle.std.proofs.lemmas.List.Edits.{length-insert}
-use Rattle.kinds.specs.declared.answer.Answer.TheVariants.{Yes, No}
 use Rattle.kinds.specs.declared.answer.Outcome.{Outcome}
 use Rattle.kinds.specs.declared.roll.entry.Entry.{Entry}
 use Rattle.kinds.specs.declared.roll.state.Roll.{Roll}
@@ -53,10 +52,10 @@ number_at r k at d h e =
 
 -- FIND
 pub find_some : (r : Roll) (k v : ℕ) → Some v ≡ found k (marks r) → left_by roll_of r (marks_after (marks r) (Find k)) ≡ yes_to v r
-find_some r k v e = ap (λ (o : Option ℕ). left_by roll_of r (find_after o (marks r))) (sym e) ∙ left_own r r (Yes v) (marks r) refl
+find_some r k v e = ap (λ (o : Option ℕ). left_by roll_of r (find_after o (marks r))) (sym e) ∙ left_own r r (Some v) (marks r) refl
 
 pub find_none : (r : Roll) (k : ℕ) → None ≡ found k (marks r) → left_by roll_of r (marks_after (marks r) (Find k)) ≡ no_to r
-find_none r k e = ap (λ (o : Option ℕ). left_by roll_of r (find_after o (marks r))) (sym e) ∙ left_own r r No (marks r) refl
+find_none r k e = ap (λ (o : Option ℕ). left_by roll_of r (find_after o (marks r))) (sym e) ∙ left_own r r None (marks r) refl
 
 -- MARK of a present key
 module _ (r : Roll) (k v at : ℕ) (e : Ok at ≡ place_of k (marks r)) where
@@ -72,7 +71,7 @@ module _ (r : Roll) (k v at : ℕ) (e : Ok at ≡ place_of k (marks r)) where
 
   pub mark_present : (q : Roll) (d : Entry) → at < r.row.count → marks q ≡ set (marks r) at (entry k v) → left_by roll_of r (marks_after (marks r) (Mark k v)) ≡ yes_to (get_or r.row.places at d).number q
   mark_present q d h f =
-      ap (λ (o : Option ℕ). left_by roll_of r (mark_after o k v (marks r))) (sym (number_at r k at d h e)) ∙ left_own r q (Yes (get_or r.row.places at d).number) (marked k v (marks r)) (f ∙ set_there)
+      ap (λ (o : Option ℕ). left_by roll_of r (mark_after o k v (marks r))) (sym (number_at r k at d h e)) ∙ left_own r q (Some (get_or r.row.places at d).number) (marked k v (marks r)) (f ∙ set_there)
 
   -- taking the key out
   out_there : remove (marks r) at ≡ without k (marks r)
@@ -99,11 +98,11 @@ module _ (r : Roll) (k v at : ℕ) (e : Err at ≡ place_of k (marks r)) where
 
   pub mark_absent : (q : Roll) → leb room r.row.count ≡ false → marks q ≡ insert (marks r) at (entry k v) → left_by roll_of r (marks_after (marks r) (Mark k v)) ≡ yes_to 0 q
   mark_absent q h f =
-      ap (λ (o : Option ℕ). left_by roll_of r (mark_after o k v (marks r))) absent.0 ∙ rw (lt-ltb (length (marks r)) room (omega (arith, marks_length r, leb-false room r.row.count h))) (left_own r q (Yes 0) (marked k v (marks r)) (f ∙ in_there))
+      ap (λ (o : Option ℕ). left_by roll_of r (mark_after o k v (marks r))) absent.0 ∙ rw (lt-ltb (length (marks r)) room (omega (arith, marks_length r, leb-false room r.row.count h))) (left_own r q (Some 0) (marked k v (marks r)) (f ∙ in_there))
 
   pub mark_full : leb room r.row.count ≡ true → left_by roll_of r (marks_after (marks r) (Mark k v)) ≡ no_to r
   mark_full h =
-      ap (λ (o : Option ℕ). left_by roll_of r (mark_after o k v (marks r))) absent.0 ∙ rw (le-ltb (length (marks r)) room (omega (arith, marks_length r, leb-true room r.row.count h))) (left_own r r No (marks r) refl)
+      ap (λ (o : Option ℕ). left_by roll_of r (mark_after o k v (marks r))) absent.0 ∙ rw (le-ltb (length (marks r)) room (omega (arith, marks_length r, leb-true room r.row.count h))) (left_own r r None (marks r) refl)
 
   pub out_absent : r ≡ turned roll_of r (without k (marks r))
   out_absent = turned_into r r (without k (marks r)) (sym (Rising.without_absent k (marks r) absent.0))

@@ -12,8 +12,8 @@ use Rattle.std.specs.Prelude.{ℕ, Option}
 use Rattle.std.specs.Option.{option_map}
 use Rattle.kinds.specs.declared.answer.Class.{Class}
 use Rattle.kinds.specs.declared.answer.Outcome.{Outcome}
-use Rattle.kinds.specs.declared.either.Either.{Either}
-use Rattle.kinds.specs.declared.either.Either.TheVariants.{Left, Right}
+use Rattle.either.specs.declared.Either.{Either}
+use Rattle.either.specs.declared.Either.TheVariants.{Left, Right}
 use Rattle.kinds.specs.declared.operation.Operation.{Operation}
 
 -- an outcome with its state put another way

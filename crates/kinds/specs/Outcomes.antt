@@ -1,5 +1,6 @@
 -- What comes of an operation. Assumes nothing.
 --
+-- | Answer        | yes with a number, or no |
 -- | yes_to        | yes with a number, and the next state |
 -- | no_to         | no, and the state as it was |
 -- | turned        | the state made of a content |
@@ -8,17 +9,19 @@
 -- | by_table      | what an operation does by its kind's table |
 use Rattle.std.specs.Prelude.{ℕ, Some, None, Option}
 use Rattle.std.specs.Option.{unwrap_or}
-use Rattle.kinds.specs.declared.answer.Answer.{Answer}
-use Rattle.kinds.specs.declared.answer.Answer.TheVariants.{Yes, No}
 use Rattle.kinds.specs.declared.answer.Outcome.{Outcome}
+
+-- an operation's answer: Some n is yes with n, None is no
+abbrev pub Answer : Type 0
+Answer = Option ℕ
 
 -- yes with a number, and the next state
 abbrev pub yes_to : {S : Type 0} → ℕ → S → Outcome S
-yes_to n s = record { answer = Yes n; next = s }
+yes_to n s = record { answer = Some n; next = s }
 
 -- no, and the state as it was
 abbrev pub no_to : {S : Type 0} → S → Outcome S
-no_to s = record { answer = No; next = s }
+no_to s = record { answer = None; next = s }
 
 -- a state turned into the one made of a content; where none is made of it, the state stays
 abbrev pub turned : {S C : Type 0} → (C → Option S) → S → C → S

@@ -13,8 +13,7 @@
 -- | end_move        | what an operation is about to move at an end |
 -- | entries_before  | the entries before a move at an end |
 use Rattle.std.specs.Prelude.{◌≡◌, ℕ, ◌+◌, ◌-◌, true, cond, List, [], ◌∷◌, ◌++◌, length, take, Some, None, Option, ◌==◌, nat_lt}
-use Rattle.kinds.specs.declared.answer.Answer.{Answer}
-use Rattle.kinds.specs.declared.answer.Answer.TheVariants.{Yes, No}
+use Rattle.kinds.specs.Outcomes.{Answer}
 use Rattle.kinds.specs.declared.answer.Class.{Class}
 use Rattle.kinds.specs.declared.answer.Class.TheVariants.{Unknown, Read, Write}
 use Rattle.kinds.specs.declared.answer.Outcome.{Outcome}
@@ -64,11 +63,11 @@ front_of (x ∷ xs) = Some x
 
 -- what an operation answers, and the entries after it
 abbrev pub entries_after : List ℕ → QueueOperation → Answer × List ℕ
-entries_after [] Front = (No, [])
-entries_after (x ∷ xs) Front = (Yes x, x ∷ xs)
-entries_after xs (Put n) = cond (nat_lt (length xs) room) (Yes (length xs + 1), xs ++ n ∷ []) (No, xs)
-entries_after [] Next = (No, [])
-entries_after (x ∷ xs) Next = (Yes x, xs)
+entries_after [] Front = (None, [])
+entries_after (x ∷ xs) Front = (Some x, x ∷ xs)
+entries_after xs (Put n) = cond (nat_lt (length xs) room) (Some (length xs + 1), xs ++ n ∷ []) (None, xs)
+entries_after [] Next = (None, [])
+entries_after (x ∷ xs) Next = (Some x, xs)
 
 -- the queue of a row, if the row is a queue's
 abbrev pub read_queue : ShortList ℕ → Option Queue

@@ -20,8 +20,7 @@
 -- | put_back       | the entries with a key's number put back |
 -- | marks_before   | the entries with a former entry put back |
 use Rattle.std.specs.Prelude.{◌≡◌, ℕ, true, cond, List, [], ◌∷◌, length, Some, None, Option, ◌==◌, nat_lt}
-use Rattle.kinds.specs.declared.answer.Answer.{Answer}
-use Rattle.kinds.specs.declared.answer.Answer.TheVariants.{Yes, No}
+use Rattle.kinds.specs.Outcomes.{Answer}
 use Rattle.kinds.specs.declared.answer.Class.{Class}
 use Rattle.kinds.specs.declared.answer.Class.TheVariants.{Unknown, Read, Write}
 use Rattle.kinds.specs.declared.answer.Outcome.{Outcome}
@@ -83,13 +82,13 @@ without k (e ∷ es) = cond (e.key == k) es (e ∷ without k es)
 
 -- FIND: yes with the key's number, or no
 abbrev pub find_after : Option ℕ → List Entry → Answer × List Entry
-find_after None es = (No, es)
-find_after (Some v) es = (Yes v, es)
+find_after None es = (None, es)
+find_after (Some v) es = (Some v, es)
 
 -- MARK: yes with the old number; yes 0 if the key was absent and there is room; or no
 abbrev pub mark_after : Option ℕ → ℕ → ℕ → List Entry → Answer × List Entry
-mark_after None k v es = cond (nat_lt (length es) room) (Yes 0, marked k v es) (No, es)
-mark_after (Some old) k v es = (Yes old, marked k v es)
+mark_after None k v es = cond (nat_lt (length es) room) (Some 0, marked k v es) (None, es)
+mark_after (Some old) k v es = (Some old, marked k v es)
 
 -- what an operation answers, and the entries after it
 abbrev pub marks_after : List Entry → RollOperation → Answer × List Entry
@@ -98,8 +97,8 @@ marks_after es (Mark k v) = mark_after (found k es) k v es
 
 -- the number of each key j after a MARK of key k with v: after a no, as it was
 abbrev pub numbers_after : Answer → ℕ → ℕ → List Entry → ℕ → Option ℕ
-numbers_after No k v es j = found j es
-numbers_after (Yes old) k v es j = cond (k == j) (Some v) (found j es)
+numbers_after None k v es j = found j es
+numbers_after (Some old) k v es j = cond (k == j) (Some v) (found j es)
 
 -- the roll of a row, if the row is a roll's
 abbrev pub read_roll : ShortList Entry → Option Roll

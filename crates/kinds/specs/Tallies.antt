@@ -9,8 +9,7 @@
 -- | amount          | by how much an operation is about to change the value |
 -- | value_undone    | the value before a change by an amount |
 use Rattle.std.specs.Prelude.{ℕ, suc, ◌+◌, ◌-◌, cond, ◌||◌, ℤ, pos, negsuc, neg_ℤ, Some, None, Option, ◌==◌, nat_le}
-use Rattle.kinds.specs.declared.answer.Answer.{Answer}
-use Rattle.kinds.specs.declared.answer.Answer.TheVariants.{Yes, No}
+use Rattle.kinds.specs.Outcomes.{Answer}
 use Rattle.kinds.specs.declared.answer.Class.{Class}
 use Rattle.kinds.specs.declared.answer.Class.TheVariants.{Unknown, Read, Write}
 use Rattle.kinds.specs.declared.answer.Outcome.{Outcome}
@@ -39,9 +38,9 @@ tally_class (Some (Take n)) = Write
 
 -- what an operation answers, and the value after it
 abbrev pub value_after : ℕ → TallyOperation → Answer × ℕ
-value_after v Show = (Yes v, v)
-value_after v (Add n) = cond (nat_le (v + n) largest) (Yes (v + n), v + n) (No, v)
-value_after v (Take n) = cond (nat_le n v) (Yes (v - n), v - n) (No, v)
+value_after v Show = (Some v, v)
+value_after v (Add n) = cond (nat_le (v + n) largest) (Some (v + n), v + n) (None, v)
+value_after v (Take n) = cond (nat_le n v) (Some (v - n), v - n) (None, v)
 
 -- the tally of a value, if that is at most the largest number
 abbrev pub tally_at : ℕ → Option Tally

@@ -2,15 +2,11 @@
 ghost use Rattle.std.specs.Prelude.{◌≡◌};
 ghost use Rattle.kinds.specs.Outcomes.{yes_to, no_to};
 
-// An operation's answer: yes with a number, or no.
-#[derive(Clone, Copy, PartialEq, Eq, Debug)]
-pub enum Answer {
-    Yes(u32),
-    No,
-}
+// An operation's answer: `Some` is yes with a number, `None` is no.
+pub type Answer = Option<u32>;
 
 // What an operation is to an object.
-#[derive(Clone, Copy)]
+#[derive(Clone, Copy, PartialEq, Eq, Debug)]
 pub enum Class {
     Unknown,
     Read,
@@ -30,7 +26,7 @@ impl<S> Outcome<S> {
         ensures { result ≡ yes_to number next }
     {
         Outcome {
-            answer: Answer::Yes(number),
+            answer: Some(number),
             next,
         }
     }
@@ -40,8 +36,20 @@ impl<S> Outcome<S> {
         ensures { result ≡ no_to state }
     {
         Outcome {
-            answer: Answer::No,
+            answer: None,
             next: state,
+        }
+    }
+
+    // The same answer, and the state put another way.
+    pub(crate) fn map<T, F: FnOnce(S) -> T>(self, put: F) -> Outcome<T>
+        requires { F.pre put self.next }
+        ensures answer { result.answer ≡ self.answer }
+        ensures next { F.post put self.next result.next }
+    {
+        Outcome {
+            answer: self.answer,
+            next: put(self.next),
         }
     }
 }

@@ -1,6 +1,5 @@
 // What every kind of object has, and the laws that generic code may use.
-ghost use Rattle.std.specs.Prelude.{◌≡◌, ℕ, false, Some, Option};
-ghost use Rattle.kinds.specs.declared.answer.Answer.TheVariants.{No};
+ghost use Rattle.std.specs.Prelude.{◌≡◌, ℕ, false, Some, None, Option};
 ghost use Rattle.kinds.specs.declared.answer.Class.{Class};
 ghost use Rattle.kinds.specs.declared.answer.Class.TheVariants.{Unknown, Read, Write};
 ghost use Rattle.kinds.specs.declared.answer.Outcome.{Outcome};
@@ -74,7 +73,7 @@ pub trait Kind: Copy {
     ghost unknown_stays: { (s : Self) (o : Operation) → classed s o ≡ Unknown → acts s o ≡ no_to s };
 
     // An answer of no leaves the state.
-    ghost no_stays: { (s : Self) (o : Operation) → (acts s o).answer ≡ No → (acts s o).next ≡ s };
+    ghost no_stays: { (s : Self) (o : Operation) → (acts s o).answer ≡ None → (acts s o).next ≡ s };
 
     // An operation with a number above the largest, or with an unused one that is not 0, is unknown.
     ghost misfit_unknown: { (s : Self) (o : Operation) → fits (uses s o.code) o ≡ false → classed s o ≡ Unknown };

@@ -2,7 +2,7 @@
 #![tactic(auto)]
 
 pub mod answer;
-pub mod either;
+pub mod join;
 pub mod kind;
 pub mod operation;
 pub mod queue;

@@ -16,9 +16,8 @@ use Rattle.kinds.specs.Joins.{either_class, either_acts}
 use Rattle.kinds.specs.Queues.{queue_class, queue_operation, queue_acts}
 use Rattle.kinds.specs.Rolls.{roll_class, roll_operation, roll_acts}
 use Rattle.kinds.specs.Tallies.{tally_class, tally_operation, tally_acts, tally_at}
-use Rattle.kinds.specs.declared.answer.Answer.TheVariants.{Yes, No}
-use Rattle.kinds.specs.declared.either.Either.{Either}
-use Rattle.kinds.specs.declared.either.Either.TheVariants.{Left}
+use Rattle.either.specs.declared.Either.{Either}
+use Rattle.either.specs.declared.Either.TheVariants.{Left}
 use Rattle.kinds.specs.declared.operation.Operation.{Operation}
 use Rattle.kinds.specs.declared.queue.state.Queue.{Queue}
 use Rattle.kinds.specs.declared.roll.state.Roll.{Roll}
@@ -95,7 +94,7 @@ unknown = record { code = 9; first = 0; second = 0 }
 
 -- an answer of yes
 abbrev pub yes_with : ℕ → Reply
-yes_with n = Answered (Yes n)
+yes_with n = Answered (Some n)
 
 -- top transactions 1 and 2 begin
 abbrev pub two_begin : List Event
@@ -137,7 +136,7 @@ examples =
     -- the crossed pair under Lightest, with one change more by 2
     (row lightest (0 ∷ 0 ∷ []) (two_begin ++ (due (add 2 1 0) (yes_with 0) ∷ (crossed ++ (due BreakDeadlock (Victim 1) ∷ []))))
     -- a tally one below the largest number
-    (row youngest (999999998 ∷ []) (two_begin ++ (due (add 1 0 1) (yes_with 999999999) ∷ due (add 1 0 1) (Answered No) ∷ []))
+    (row youngest (999999998 ∷ []) (two_begin ++ (due (add 1 0 1) (yes_with 999999999) ∷ due (add 1 0 1) (Answered None) ∷ []))
     -- a child's read lock is its parent's after its commit
     (row youngest (0 ∷ []) (three_begin ++ (due (show 3 0) (yes_with 0) ∷ due (Commit 3) Accepted ∷ due (add 2 0 1) Waits ∷ due (Commit 1) Accepted ∷ due (add 2 0 1) (yes_with 1) ∷ []))
     -- a parent held up by another child: 4 holds what 2 waits for and does not wait itself, but 3 waits below the same parent

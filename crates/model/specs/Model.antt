@@ -18,7 +18,7 @@
 -- | respond         | the reply to a call, and the later state |
 use Rattle.std.specs.Prelude.{ℕ, Bool, cond, List, [], ◌∷◌, map, Some, None, Ok, Err, Option, Result}
 use Rattle.std.specs.List.{slice_get}
-use Rattle.kinds.specs.declared.answer.Answer.{Answer}
+use Rattle.kinds.specs.Outcomes.{Answer}
 use Rattle.kinds.specs.declared.answer.Class.{Class}
 use Rattle.kinds.specs.declared.answer.Class.TheVariants as classes
 use Rattle.kinds.specs.declared.answer.Outcome.{Outcome}

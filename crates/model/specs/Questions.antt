@@ -7,7 +7,7 @@
 -- | lock_counts | how many transactions hold each lock of an object |
 use Rattle.std.specs.Prelude.{ℕ, cond, List, Some, None, Ok, Err, Option, Result, nat_lt}
 use Rattle.std.specs.List.{slice_get}
-use Rattle.kinds.specs.declared.answer.Answer.{Answer}
+use Rattle.kinds.specs.Outcomes.{Answer}
 use Rattle.kinds.specs.declared.answer.Class.{Class}
 use Rattle.kinds.specs.declared.answer.Class.TheVariants as classes
 use Rattle.kinds.specs.declared.answer.Outcome.{Outcome}

@@ -6,8 +6,7 @@
 -- | serial_states  | the states after some steps, one after the other |
 use Rattle.std.specs.Prelude.{List, [], ◌∷◌, Some, None, Option}
 use Rattle.std.specs.List.{slice_get}
-use Rattle.kinds.specs.declared.answer.Answer.{Answer}
-use Rattle.kinds.specs.declared.answer.Answer.TheVariants.{No}
+use Rattle.kinds.specs.Outcomes.{Answer}
 use Rattle.kinds.specs.declared.answer.Outcome.{Outcome}
 use Rattle.kinds.specs.declared.operation.Operation.{Operation}
 use Rattle.model.specs.Histories.{Asked}
@@ -15,7 +14,7 @@ use Rattle.model.specs.Numbers.{at}
 
 -- what an object answers; there is no answer of no object
 abbrev pub answer_of : {S : Type 0} → (S → Operation → Outcome S) → Operation → Option S → Answer
-answer_of acts o None = No
+answer_of acts o None = None
 answer_of acts o (Some s) = (acts s o).answer
 
 -- the states after one step

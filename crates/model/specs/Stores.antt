@@ -21,8 +21,7 @@
 -- | discard      | a store's discard |
 use Rattle.std.specs.Prelude.{ℕ, suc, ◌+◌, cond, List, [], ◌∷◌, map, Some, None, Ok, Err, Option, Result, ◌==◌}
 use Rattle.std.specs.List.{slice_get}
-use Rattle.kinds.specs.declared.answer.Answer.{Answer}
-use Rattle.kinds.specs.declared.answer.Answer.TheVariants.{No}
+use Rattle.kinds.specs.Outcomes.{Answer}
 use Rattle.kinds.specs.declared.answer.Outcome.{Outcome}
 use Rattle.kinds.specs.declared.operation.Operation.{Operation}
 use Rattle.model.specs.declared.fault.StoreFault.{StoreFault}
@@ -112,7 +111,7 @@ dropped t ob = object ob.committed (without_top t ob.versions)
 
 -- an update of an object: refused exactly where its weight is the capacity; else the operation acts on the top state. Of no object: nothing
 abbrev pub update_of : {S : Type 0} → (S → Operation → Outcome S) → ℕ → ℕ → ℕ → Operation → List (Object S) → Option (Object S) → Result Answer StoreFault × List (Object S)
-update_of acts capacity t x o obs None = (Ok No, obs)
+update_of acts capacity t x o obs None = (Ok None, obs)
 update_of acts capacity t x o obs (Some ob) =
     cond (weight ob.versions == capacity) (Err Full, obs) (Ok (acts (top ob) o).answer, at x (changed t (acts (top ob) o).next) obs)
 

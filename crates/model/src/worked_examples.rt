@@ -4,7 +4,7 @@ ghost use Rattle.model.specs.Examples.{product, ExamplesHold};
 ghost use Rattle.model.specs.Policies.{youngest};
 
 use kinds::answer::{Class, Outcome};
-use kinds::either::Object;
+use kinds::join::Object;
 use kinds::kind::Kind;
 use kinds::operation::Operation;
 

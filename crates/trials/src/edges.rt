@@ -1,6 +1,7 @@
 // The edges of each kind: operations in order, with the answers that they must get.
 use kinds::answer::{Answer, Class};
-use kinds::either::{Either, Object};
+use either::Either;
+use kinds::join::Object;
 use kinds::kind::Kind;
 use kinds::operation::{LARGEST, Operation};
 use kinds::queue::{FRONT, NEXT, PUT, Queue};
@@ -22,7 +23,7 @@ fn yes(code: u32, first: u32, second: u32, number: u32) -> Case {
         first,
         second,
     };
-    let expected = Some(Answer::Yes(number));
+    let expected = Some(Some(number));
     Case {
         operation,
         expected,
@@ -35,7 +36,7 @@ fn no(code: u32, first: u32, second: u32) -> Case {
         first,
         second,
     };
-    let expected = Some(Answer::No);
+    let expected = Some(None);
     Case {
         operation,
         expected,

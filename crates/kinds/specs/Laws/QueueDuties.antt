@@ -4,7 +4,6 @@ use Rattle.std.proofs.Common.{ap, sym, ◌∙◌, arith, ⊎_elim}
 use Rattle.std.proofs.lemmas.List.{length-append, take_at}
 use Rattle.std.proofs.lemmas.Bool.{cond_both, cases_Bool, and_from, and_parts}
 use Rattle.std.proofs.lemmas.Bool.Decides.{nat_tests}
-use Rattle.kinds.specs.declared.answer.Answer.TheVariants.{No}
 use Rattle.kinds.specs.declared.answer.Class.TheVariants.{Read, Write}
 use Rattle.kinds.specs.declared.answer.Outcome.{Outcome}
 use Rattle.kinds.specs.declared.operation.Operation.{Operation}
@@ -21,14 +20,14 @@ use Rattle.kinds.specs.Laws.Fitting.{fits_first}
 use Rattle.kinds.specs.Laws.Tables as tables
 
 -- a no changes no entries
-no_keeps : (xs : List ℕ) (p : QueueOperation) → (entries_after xs p).0 ≡ No → (entries_after xs p).1 ≡ xs
+no_keeps : (xs : List ℕ) (p : QueueOperation) → (entries_after xs p).0 ≡ None → (entries_after xs p).1 ≡ xs
 no_keeps [] Front e = refl
 no_keeps (x ∷ xs) Front e = refl
 no_keeps xs (Put n) e = grind (arith, nat_tests)
 no_keeps [] Next e = refl
 no_keeps (x ∷ xs) Next e = absurd (let z : ◌≡◌ {A = ℕ} 0 1 = cc in omega arith)
 
-pub no_leaves_state : (q : Queue) (p : Option QueueOperation) → (by_table queue_of (entries_after (entries q)) q p).answer ≡ No → (by_table queue_of (entries_after (entries q)) q p).next ≡ q
+pub no_leaves_state : (q : Queue) (p : Option QueueOperation) → (by_table queue_of (entries_after (entries q)) q p).answer ≡ None → (by_table queue_of (entries_after (entries q)) q p).next ≡ q
 no_leaves_state q p e = tables.no_leaves queue_of entries queue_own (entries_after (entries q)) q p (no_keeps (entries q)) e
 
 -- FRONT changes no entries

@@ -5,8 +5,7 @@ use Rattle.std.specs.Option.{unwrap_or}
 use Rattle.std.specs.List.{insert, remove}
 use Rattle.std.proofs.lemmas.Bool.{eqb-true, lt-ltb, le-ltb, lt-leb, leb-true, leb-false, and_left, and_right}
 use Rattle.std.proofs.lemmas.List.{length-take, drop_all, append-nil}
-use Rattle.kinds.specs.declared.answer.Answer.{Answer}
-use Rattle.kinds.specs.declared.answer.Answer.TheVariants.{Yes, No}
+use Rattle.kinds.specs.Outcomes.{Answer}
 use Rattle.kinds.specs.declared.short_list.ShortList.{ShortList}
 use Rattle.kinds.specs.declared.queue.state.Queue.{Queue}
 use Rattle.kinds.specs.Outcomes.{yes_to, no_to, turned, left_by}
@@ -94,26 +93,26 @@ front_none_is (y ∷ xs) e = absurd (let z : ◌≡◌ {A = ℕ} 0 1 = cc in ome
 
 -- the answers of FRONT, PUT and NEXT
 pub front_none : (q : Queue) → entries q ≡ [] → left_by queue_of q (entries_after (entries q) Front) ≡ no_to q
-front_none q e = ap (λ (es : List ℕ). left_by queue_of q (entries_after es Front)) e ∙ left_own q q No [] e
+front_none q e = ap (λ (es : List ℕ). left_by queue_of q (entries_after es Front)) e ∙ left_own q q None [] e
 
 pub front_some : (q : Queue) (x : ℕ) (xs : List ℕ) → entries q ≡ x ∷ xs → left_by queue_of q (entries_after (entries q) Front) ≡ yes_to x q
-front_some q x xs e = ap (λ (es : List ℕ). left_by queue_of q (entries_after es Front)) e ∙ left_own q q (Yes x) (x ∷ xs) e
+front_some q x xs e = ap (λ (es : List ℕ). left_by queue_of q (entries_after es Front)) e ∙ left_own q q (Some x) (x ∷ xs) e
 
 pub put_none : (q : Queue) (n : ℕ) → nat_le room q.row.count ≡ true → left_by queue_of q (entries_after (entries q) (Put n)) ≡ no_to q
-put_none q n h = rw (le-ltb (length (entries q)) room (omega (arith, entries_length q, leb-true room q.row.count h))) (left_own q q No (entries q) refl)
+put_none q n h = rw (le-ltb (length (entries q)) room (omega (arith, entries_length q, leb-true room q.row.count h))) (left_own q q None (entries q) refl)
 
 pub put_some : (q p : Queue) (n : ℕ) → nat_le room q.row.count ≡ false → entries p ≡ insert (entries q) q.row.count n → left_by queue_of q (entries_after (entries q) (Put n)) ≡ yes_to (q.row.count + 1) p
 put_some q p n h e =
     let k = entries_length q in
     let f : entries p ≡ entries q ++ n ∷ [] = e ∙ ap (λ (i : ℕ). insert (entries q) i n) (sym k) ∙ inserted_end (entries q) n in
-    rw (lt-ltb (length (entries q)) room (omega (arith, leb-false room q.row.count h))) (left_own q p (Yes (length (entries q) + 1)) (entries q ++ n ∷ []) f ∙ ap (λ (m : ℕ). yes_to (m + 1) p) k)
+    rw (lt-ltb (length (entries q)) room (omega (arith, leb-false room q.row.count h))) (left_own q p (Some (length (entries q) + 1)) (entries q ++ n ∷ []) f ∙ ap (λ (m : ℕ). yes_to (m + 1) p) k)
 
 pub next_none : (q : Queue) → entries q ≡ [] → left_by queue_of q (entries_after (entries q) Next) ≡ no_to q
-next_none q e = ap (λ (es : List ℕ). left_by queue_of q (entries_after es Next)) e ∙ left_own q q No [] e
+next_none q e = ap (λ (es : List ℕ). left_by queue_of q (entries_after es Next)) e ∙ left_own q q None [] e
 
 pub next_some : (q p : Queue) (x : ℕ) (xs : List ℕ) → entries q ≡ x ∷ xs → entries p ≡ remove (entries q) 0 → left_by queue_of q (entries_after (entries q) Next) ≡ yes_to x p
 next_some q p x xs e f =
-    ap (λ (es : List ℕ). left_by queue_of q (entries_after es Next)) e ∙ left_own q p (Yes x) xs (f ∙ ap (λ (es : List ℕ). remove es 0) e)
+    ap (λ (es : List ℕ). left_by queue_of q (entries_after es Next)) e ∙ left_own q p (Some x) xs (f ∙ ap (λ (es : List ℕ). remove es 0) e)
 
 pub move_none : (q : Queue) → entries q ≡ [] → Stayed ≡ end_move (entries q) (Some Next)
 move_none q e = sym (ap (λ (es : List ℕ). end_move es (Some Next)) e)

@@ -4,7 +4,6 @@ use Rattle.std.proofs.Common.{ap, sym, ◌∙◌, ⊎_elim, arith, length-set}
 use Rattle.std.proofs.lemmas.List.Edits.{length-insert}
 use Rattle.std.proofs.lemmas.Bool.{cond_both, cases_Bool, ltb-true}
 use Rattle.std.proofs.lemmas.Bool.Decides.{nat_tests}
-use Rattle.kinds.specs.declared.answer.Answer.TheVariants.{No}
 use Rattle.kinds.specs.declared.answer.Class.TheVariants.{Read, Write}
 use Rattle.kinds.specs.declared.answer.Outcome.{Outcome}
 use Rattle.kinds.specs.declared.operation.Operation.{Operation}
@@ -29,15 +28,15 @@ find_keeps None es = refl
 find_keeps (Some v) es = refl
 
 -- a no changes no entries
-mark_keeps : (o : Option ℕ) (k v : ℕ) (es : List Entry) → (mark_after o k v es).0 ≡ No → (mark_after o k v es).1 ≡ es
+mark_keeps : (o : Option ℕ) (k v : ℕ) (es : List Entry) → (mark_after o k v es).0 ≡ None → (mark_after o k v es).1 ≡ es
 mark_keeps None k v es e = grind (arith, nat_tests)
 mark_keeps (Some old) k v es e = absurd (let z : ◌≡◌ {A = ℕ} 0 1 = cc in omega arith)
 
-no_keeps : (es : List Entry) (p : RollOperation) → (marks_after es p).0 ≡ No → (marks_after es p).1 ≡ es
+no_keeps : (es : List Entry) (p : RollOperation) → (marks_after es p).0 ≡ None → (marks_after es p).1 ≡ es
 no_keeps es (Find k) e = find_keeps (found k es) es
 no_keeps es (Mark k v) e = mark_keeps (found k es) k v es e
 
-pub no_leaves_state : (r : Roll) (p : Option RollOperation) → (by_table roll_of (marks_after (marks r)) r p).answer ≡ No → (by_table roll_of (marks_after (marks r)) r p).next ≡ r
+pub no_leaves_state : (r : Roll) (p : Option RollOperation) → (by_table roll_of (marks_after (marks r)) r p).answer ≡ None → (by_table roll_of (marks_after (marks r)) r p).next ≡ r
 no_leaves_state r p e = tables.no_leaves roll_of marks roll_own (marks_after (marks r)) r p (no_keeps (marks r)) e
 
 pub read_leaves_state : (r : Roll) (p : Option RollOperation) → roll_class p ≡ Read → (by_table roll_of (marks_after (marks r)) r p).next ≡ r

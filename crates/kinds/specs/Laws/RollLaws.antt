@@ -4,7 +4,7 @@ use Rattle.std.proofs.Common.{ap, sym, ◌∙◌, ⊎_elim}
 use Rattle.std.specs.Option.{unwrap_or}
 use Rattle.std.specs.List.{insert, remove}
 use Rattle.std.proofs.lemmas.Bool.{eqb-true, and_parts, cases_Bool}
-use Rattle.kinds.specs.declared.answer.Answer.{Answer}
+use Rattle.kinds.specs.Outcomes.{Answer}
 use Rattle.kinds.specs.declared.roll.entry.Entry.{Entry}
 use Rattle.kinds.specs.declared.roll.state.Roll.{Roll}
 use Rattle.kinds.specs.declared.short_list.ShortList.{ShortList}

@@ -2,8 +2,8 @@
 use Rattle.std.specs.Prelude.{◌≡◌, ℕ, Some, None, Option}
 use Rattle.std.proofs.Common.{arith}
 use Rattle.std.specs.Option.{option_map}
-use Rattle.kinds.specs.declared.either.Either.{Either}
-use Rattle.kinds.specs.declared.either.Either.TheVariants.{Left, Right}
+use Rattle.either.specs.declared.Either.{Either}
+use Rattle.either.specs.declared.Either.TheVariants.{Left, Right}
 
 module _ {L R : Type 0} where
   pub left_some : (o : Option L) (l : L) → option_map {U = Either L R} Left o ≡ Some (Left l) → o ≡ Some l

@@ -2,8 +2,7 @@
 use Rattle.std.specs.Prelude.{◌≡◌, Some, None, Option, refl}
 use Rattle.std.proofs.Common.{ap, sym, ◌∙◌}
 use Rattle.std.specs.Option.{unwrap_or}
-use Rattle.kinds.specs.declared.answer.Answer.{Answer}
-use Rattle.kinds.specs.declared.answer.Answer.TheVariants.{No}
+use Rattle.kinds.specs.Outcomes.{Answer}
 use Rattle.kinds.specs.Outcomes.{turned, left_by, by_table}
 
 module _ {S C : Type 0} (make : C → Option S) (content : S → C) (own : (s : S) → make (content s) ≡ Some s) where
@@ -20,7 +19,7 @@ module _ {S C : Type 0} (make : C → Option S) (content : S → C) (own : (s : 
   left_content s t q e = ap content (turned_own s t q.1 e) ∙ e
 
   -- where a no leaves the content, it leaves the state
-  pub no_leaves : {P : Type 0} (table : P → Answer × C) (s : S) (p : Option P) → ((k : P) → (table k).0 ≡ No → (table k).1 ≡ content s) → (by_table make table s p).answer ≡ No → (by_table make table s p).next ≡ s
+  pub no_leaves : {P : Type 0} (table : P → Answer × C) (s : S) (p : Option P) → ((k : P) → (table k).0 ≡ None → (table k).1 ≡ content s) → (by_table make table s p).answer ≡ None → (by_table make table s p).next ≡ s
   no_leaves table s None h e = refl
   no_leaves table s (Some k) h e = turned_own s s (table k).1 (sym (h k e))
 

@@ -2,8 +2,7 @@
 use Rattle.std.specs.Prelude.{◌≡◌, ℕ, Bool, true, false, cond, Some, None, Option, nat_le, refl}
 use Rattle.std.proofs.Common.{ap, sym, ◌∙◌, arith}
 use Rattle.std.proofs.lemmas.Bool.Decides.{nat_tests}
-use Rattle.kinds.specs.declared.answer.Answer.{Answer}
-use Rattle.kinds.specs.declared.answer.Answer.TheVariants.{Yes, No}
+use Rattle.kinds.specs.Outcomes.{Answer}
 use Rattle.kinds.specs.declared.answer.Class.TheVariants.{Read, Write}
 use Rattle.kinds.specs.declared.answer.Outcome.{Outcome}
 use Rattle.kinds.specs.declared.tally.state.Tally.{Tally}
@@ -33,13 +32,13 @@ pub left_own : (t u : Tally) (a : Answer) (v : ℕ) → u.value ≡ v → left_b
 left_own = tables.left_own tally_at (λ s. s.value) tally_at_own
 
 -- a no changes no value
-no_keeps_value : (v : ℕ) (p : TallyOperation) → (value_after v p).0 ≡ No → (value_after v p).1 ≡ v
+no_keeps_value : (v : ℕ) (p : TallyOperation) → (value_after v p).0 ≡ None → (value_after v p).1 ≡ v
 no_keeps_value v Show e = refl
 no_keeps_value v (Add n) e = grind (arith, nat_tests)
 no_keeps_value v (Take n) e = grind (arith, nat_tests)
 
 -- a no changes no tally
-pub no_leaves_state : (t : Tally) (p : Option TallyOperation) → (by_table tally_at (value_after t.value) t p).answer ≡ No → (by_table tally_at (value_after t.value) t p).next ≡ t
+pub no_leaves_state : (t : Tally) (p : Option TallyOperation) → (by_table tally_at (value_after t.value) t p).answer ≡ None → (by_table tally_at (value_after t.value) t p).next ≡ t
 no_leaves_state t p e = tables.no_leaves tally_at (λ s. s.value) tally_at_own (value_after t.value) t p (no_keeps_value t.value) e
 
 -- a read changes no tally
@@ -68,12 +67,12 @@ undo_leads_back t (Some p) e =
     tables.undo_returns tally_at (λ s. s.value) tally_at_own value_undone t (record { value = (value_after t.value p).1; sound = after_ranged t.value p t.sound }) _ (amount t.value (Some p)) refl (value_restored t.value p t.sound)
 
 -- an operation that does not pass its test is answered no
-pub refused : (t : Tally) (b : Bool) (n v : ℕ) → b ≡ false → left_by tally_at t (cond b (Yes n, v) (No, t.value)) ≡ no_to t
-refused t b n v e = rw e (left_own t t No t.value refl)
+pub refused : (t : Tally) (b : Bool) (n v : ℕ) → b ≡ false → left_by tally_at t (cond b (Some n, v) (None, t.value)) ≡ no_to t
+refused t b n v e = rw e (left_own t t None t.value refl)
 
 -- one that passes it is answered yes, and leaves the tally of the new value
-pub accepted : (t u : Tally) (b : Bool) (v : ℕ) → b ≡ true → u.value ≡ v → left_by tally_at t (cond b (Yes v, v) (No, t.value)) ≡ yes_to v u
-accepted t u b v e f = rw e (left_own t u (Yes v) v f)
+pub accepted : (t u : Tally) (b : Bool) (v : ℕ) → b ≡ true → u.value ≡ v → left_by tally_at t (cond b (Some v, v) (None, t.value)) ≡ yes_to v u
+accepted t u b v e f = rw e (left_own t u (Some v) v f)
 
 -- the value after an operation is the table's
 pub after_value : (t : Tally) (p : TallyOperation) (r : Outcome Tally) → r ≡ left_by tally_at t (value_after t.value p) → r.next.value ≡ (value_after t.value p).1

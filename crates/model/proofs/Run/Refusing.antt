@@ -1,7 +1,7 @@
 -- A refused call changes nothing.
 use Rattle.std.proofs.Common.{◌≡◌, ℕ, Bool, true, false, cond, List, Some, None, Ok, Err, Option, Result, refl, arith}
 use Rattle.std.specs.List.{slice_get}
-use Rattle.kinds.specs.declared.answer.Answer.{Answer}
+use Rattle.kinds.specs.Outcomes.{Answer}
 use Rattle.kinds.specs.declared.answer.Class.{Class}
 use Rattle.kinds.specs.declared.answer.Class.TheVariants as classes
 use Rattle.kinds.specs.declared.operation.Operation.{Operation}

@@ -1,7 +1,7 @@
 // The join of any two kinds: each object is of one side, fixed when made, and knows only that side's operations.
 ghost use Rattle.kinds.specs.Joins.{either_class, either_acts, either_uses, either_records, either_undone, either_rowed, either_reads, lifted};
 ghost use Rattle.std.proofs.Common.{ap, rules};
-ghost use Rattle.kinds.specs.declared.either.Either.TheVariants.{Left, Right};
+ghost use Rattle.either.specs.declared.Either.TheVariants.{Left, Right};
 ghost use Rattle.kinds.specs.Laws.Sides.{left_some, right_some, left_not_right, right_not_left};
 
 use crate::answer::{Class, Outcome};
@@ -10,13 +10,7 @@ use crate::operation::Operation;
 use crate::queue::Queue;
 use crate::roll::Roll;
 use crate::tally::Tally;
-
-// A value of one side or of the other.
-#[derive(Clone, Copy)]
-pub enum Either<L, R> {
-    Left(L),
-    Right(R),
-}
+use either::{Either, for_both, map_both};
 
 // The objects of the product: a tally, or else a queue or a roll.
 pub type Object = Either<Tally, Either<Queue, Roll>>;
@@ -85,36 +79,18 @@ impl<L: Kind, R: Kind> Kind for Either<L, R> {
     ghost same_row = { Prim.search rules };
 
     fn class(self, operation: Operation) -> Class {
-        match self {
-            Either::Left(left) => left.class(operation),
-            Either::Right(right) => right.class(operation),
-        }
+        for_both!(self, state => state.class(operation))
     }
 
     fn act(self, operation: Operation) -> Outcome<Either<L, R>> {
         match self {
-            Either::Left(left) => {
-                let done = left.act(operation);
-                Outcome {
-                    answer: done.answer,
-                    next: Either::Left(done.next),
-                }
-            }
-            Either::Right(right) => {
-                let done = right.act(operation);
-                Outcome {
-                    answer: done.answer,
-                    next: Either::Right(done.next),
-                }
-            }
+            Either::Left(left) => left.act(operation).map(|next| Either::Left(next)),
+            Either::Right(right) => right.act(operation).map(|next| Either::Right(next)),
         }
     }
 
     fn undo_record(self, operation: Operation) -> Either<L::Undo, R::Undo> {
-        match self {
-            Either::Left(left) => Either::Left(left.undo_record(operation)),
-            Either::Right(right) => Either::Right(right.undo_record(operation)),
-        }
+        map_both!(self, state => state.undo_record(operation))
     }
 
     fn undo(self, record: Either<L::Undo, R::Undo>) -> Either<L, R> {
@@ -126,22 +102,13 @@ impl<L: Kind, R: Kind> Kind for Either<L, R> {
     }
 
     fn row(self) -> Either<L::Row, R::Row> {
-        match self {
-            Either::Left(left) => Either::Left(left.row()),
-            Either::Right(right) => Either::Right(right.row()),
-        }
+        map_both!(self, state => state.row())
     }
 
     fn from_row(row: Either<L::Row, R::Row>) -> Option<Either<L, R>> {
         match row {
-            Either::Left(left) => match L::from_row(left) {
-                Some(state) => Some(Either::Left(state)),
-                None => None,
-            },
-            Either::Right(right) => match R::from_row(right) {
-                Some(state) => Some(Either::Right(state)),
-                None => None,
-            },
+            Either::Left(left) => L::from_row(left).map(|state| Either::Left(state)),
+            Either::Right(right) => R::from_row(right).map(|state| Either::Right(state)),
         }
     }
 }
