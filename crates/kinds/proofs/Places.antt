@@ -2,6 +2,7 @@
 use Rattle.std.proofs.Common.{◌≡◌, ℕ, ◌+◌, ◌-◌, ◌<◌, List, [], ◌∷◌, ◌++◌, length, take, drop, set, refl, ap, ◌∙◌, append-nil, arith}
 use Rattle.std.proofs.lemmas.List.{drop_more, drop_all, drop-drop, take_rest, length-drop}
 use borrow.Rule.Slice.PartMut.{put_mid}
+use Rattle.kinds.specs.ShortLists.{pushed, pulled}
 
 -- the last of some places moved to their front, and an item put there
 turned_in : {T : Type 0} (ds : List T) (m : ℕ) (x : T) → length ds ≡ m + 1 → set (drop (length ds - 1) ds ++ take (length ds - 1) ds) 0 x ≡ x ∷ take m ds
@@ -12,7 +13,7 @@ turned_in ds m x n =
     rw (e, last, past)
 
 -- putting an item in at the start of a part that has been turned by one
-pub rotated_in : {T : Type 0} (xs rr : List T) (at : ℕ) (x : T) → at < length xs → let rest = take (length xs - at) (drop at xs) in rr ≡ drop (length rest - 1) rest ++ take (length rest - 1) rest → put_mid at (length xs - at) xs (set rr 0 x) ≡ take at xs ++ x ∷ take (length xs - 1 - at) (drop at xs)
+pub rotated_in : {T : Type 0} (xs rr : List T) (at : ℕ) (x : T) → at < length xs → let rest = take (length xs - at) (drop at xs) in rr ≡ drop (length rest - 1) rest ++ take (length rest - 1) rest → put_mid at (length xs - at) xs (set rr 0 x) ≡ pushed at x xs
 rotated_in {T} xs rr at x h f =
     let n = length-drop at xs in
     let past = drop_all (length xs - at) (drop at xs) (omega arith) in
@@ -27,7 +28,7 @@ turned_out [] b h = absurd (omega arith)
 turned_out (d ∷ ds) b h = refl
 
 -- turning a part by one whose start has been blanked
-pub rotated_out : {T : Type 0} (xs rr : List T) (at : ℕ) (b : T) → at < length xs → let rest = set (take (length xs - at) (drop at xs)) 0 b in rr ≡ drop 1 rest ++ take 1 rest → put_mid at (length xs - at) xs rr ≡ take at xs ++ (drop (at + 1) xs ++ b ∷ [])
+pub rotated_out : {T : Type 0} (xs rr : List T) (at : ℕ) (b : T) → at < length xs → let rest = set (take (length xs - at) (drop at xs)) 0 b in rr ≡ drop 1 rest ++ take 1 rest → put_mid at (length xs - at) xs rr ≡ pulled at b xs
 rotated_out {T} xs rr at b h f =
     let n = length-drop at xs in
     let past = drop_all (length xs - at) (drop at xs) (omega arith) in

@@ -1,7 +1,7 @@
 -- The proofs of the kinds' laws, which each kind's impl cites. No contract cites them: a reader may take them on the prover's word.
 pub mod Alls
 pub mod Checks
-pub mod Fitting
+pub mod NumberLaws
 pub mod Packing
 pub mod QueueDuties
 pub mod QueueLaws

@@ -1,5 +1,6 @@
 pub mod Joins
 pub mod Laws
+pub mod Numbers
 pub mod Operations
 pub mod Outcomes
 pub mod QueueRows

@@ -1,7 +1,6 @@
 -- A queue: what it knows, what each operation does, and how a write is undone. Assumes nothing.
 --
 -- | queue_operation | the operation of a code and its numbers |
--- | QueueBound      | the number of an operation is at most the largest |
 -- | queue_uses      | how many numbers a code uses |
 -- | queue_class     | what an operation is to a queue |
 -- | entries         | the entries of a queue, from the front |
@@ -12,8 +11,8 @@
 -- | queue_acts      | what an operation does to a queue |
 -- | end_move        | what an operation is about to move at an end |
 -- | entries_before  | the entries before a move at an end |
-use Rattle.std.specs.Prelude.{◌≡◌, ℕ, ◌+◌, ◌-◌, true, cond, List, [], ◌∷◌, ◌++◌, length, take, Some, None, Option, ◌==◌, nat_lt}
-use Rattle.kinds.specs.Outcomes.{Answer}
+use Rattle.std.specs.Prelude.{ℕ, ◌+◌, ◌-◌, cond, List, [], ◌∷◌, ◌++◌, length, take, Some, None, Option, ◌==◌, nat_lt}
+use Rattle.kinds.specs.Outcomes.{Answer, by_table}
 use Rattle.kinds.specs.declared.answer.Class.{Class}
 use Rattle.kinds.specs.declared.answer.Class.TheVariants.{Unknown, Read, Write}
 use Rattle.kinds.specs.declared.answer.Outcome.{Outcome}
@@ -24,22 +23,16 @@ use Rattle.kinds.specs.declared.queue.operation.QueueOperation.{QueueOperation}
 use Rattle.kinds.specs.declared.queue.operation.QueueOperation.TheVariants.{Front, Put, Next}
 use Rattle.kinds.specs.declared.queue.operation.EndMove.{EndMove}
 use Rattle.kinds.specs.declared.queue.operation.EndMove.TheVariants.{Stayed, BackJoined, FrontLeft}
-use Rattle.kinds.specs.Operations.{ranged, is}
-use Rattle.kinds.specs.Outcomes.{by_table}
+use Rattle.std.specs.Option.{option_map}
+use Rattle.kinds.specs.Numbers.{number_at}
+use Rattle.kinds.specs.Operations.{is}
 use Rattle.kinds.specs.QueueRows.{is_queue}
 use Rattle.kinds.specs.Rows.{checked}
 use Rattle.kinds.specs.ShortLists.{room, items, packed}
 
 -- code 12 is FRONT, code 13 PUT n, code 14 NEXT
 abbrev pub queue_operation : Operation → Option QueueOperation
-queue_operation o = cond (is 12 0 o) (Some Front) (cond (is 13 1 o) (Some (Put o.first)) (cond (is 14 0 o) (Some Next) None))
-
--- the number of an operation is at most the largest
-abbrev pub QueueBound : Option QueueOperation → Type 0
-QueueBound None = Unit {0}
-QueueBound (Some Front) = Unit {0}
-QueueBound (Some (Put n)) = ranged n ≡ true
-QueueBound (Some Next) = Unit {0}
+queue_operation o = cond (is 12 0 o) (Some Front) (cond (is 13 1 o) (option_map Put (number_at o.first)) (cond (is 14 0 o) (Some Next) None))
 
 -- PUT uses one number
 abbrev pub queue_uses : Queue → ℕ → ℕ
@@ -65,7 +58,7 @@ front_of (x ∷ xs) = Some x
 abbrev pub entries_after : List ℕ → QueueOperation → Answer × List ℕ
 entries_after [] Front = (None, [])
 entries_after (x ∷ xs) Front = (Some x, x ∷ xs)
-entries_after xs (Put n) = cond (nat_lt (length xs) room) (Some (length xs + 1), xs ++ n ∷ []) (None, xs)
+entries_after xs (Put n) = cond (nat_lt (length xs) room) (Some (length xs + 1), xs ++ n.value ∷ []) (None, xs)
 entries_after [] Next = (None, [])
 entries_after (x ∷ xs) Next = (Some x, xs)
 

@@ -1,7 +1,6 @@
 -- A roll: what it knows, what each operation does, and how a write is undone. Assumes nothing.
 --
 -- | roll_operation | the operation of a code and its numbers |
--- | RollBound      | the numbers of an operation are at most the largest |
 -- | roll_uses      | how many numbers a code uses |
 -- | roll_class     | what an operation is to a roll |
 -- | marks          | the entries of a roll, by rising keys |
@@ -19,8 +18,8 @@
 -- | former         | the entry of an operation's key before it |
 -- | put_back       | the entries with a key's number put back |
 -- | marks_before   | the entries with a former entry put back |
-use Rattle.std.specs.Prelude.{◌≡◌, ℕ, true, cond, List, [], ◌∷◌, length, Some, None, Option, ◌==◌, nat_lt}
-use Rattle.kinds.specs.Outcomes.{Answer}
+use Rattle.std.specs.Prelude.{ℕ, cond, List, [], ◌∷◌, length, Some, None, Option, ◌==◌, nat_lt}
+use Rattle.kinds.specs.Outcomes.{Answer, by_table}
 use Rattle.kinds.specs.declared.answer.Class.{Class}
 use Rattle.kinds.specs.declared.answer.Class.TheVariants.{Unknown, Read, Write}
 use Rattle.kinds.specs.declared.answer.Outcome.{Outcome}
@@ -31,21 +30,16 @@ use Rattle.kinds.specs.declared.roll.operation.RollOperation.{RollOperation}
 use Rattle.kinds.specs.declared.roll.operation.RollOperation.TheVariants.{Find, Mark}
 use Rattle.kinds.specs.declared.roll.state.Roll.{Roll}
 use Rattle.kinds.specs.declared.short_list.ShortList.{ShortList}
-use Rattle.kinds.specs.Operations.{ranged, is}
-use Rattle.kinds.specs.Outcomes.{by_table}
+use Rattle.std.specs.Option.{option_map, option_zip}
+use Rattle.kinds.specs.Numbers.{number_at}
+use Rattle.kinds.specs.Operations.{is}
 use Rattle.kinds.specs.RollRows.{is_roll}
 use Rattle.kinds.specs.Rows.{checked}
 use Rattle.kinds.specs.ShortLists.{room, items, packed}
 
 -- code 21 is FIND k, code 22 MARK k v
 abbrev pub roll_operation : Operation → Option RollOperation
-roll_operation o = cond (is 21 1 o) (Some (Find o.first)) (cond (is 22 2 o) (Some (Mark o.first o.second)) None)
-
--- the numbers of an operation are at most the largest
-abbrev pub RollBound : Option RollOperation → Type 0
-RollBound None = Unit {0}
-RollBound (Some (Find k)) = ranged k ≡ true
-RollBound (Some (Mark k v)) = (ranged k ≡ true) × (ranged v ≡ true)
+roll_operation o = cond (is 21 1 o) (option_map Find (number_at o.first)) (cond (is 22 2 o) (option_map (λ q. Mark q.0 q.1) (option_zip (number_at o.first) (number_at o.second))) None)
 
 -- FIND uses one number, MARK two
 abbrev pub roll_uses : Roll → ℕ → ℕ
@@ -92,8 +86,8 @@ mark_after (Some old) k v es = (Some old, marked k v es)
 
 -- what an operation answers, and the entries after it
 abbrev pub marks_after : List Entry → RollOperation → Answer × List Entry
-marks_after es (Find k) = find_after (found k es) es
-marks_after es (Mark k v) = mark_after (found k es) k v es
+marks_after es (Find k) = find_after (found k.value es) es
+marks_after es (Mark k v) = mark_after (found k.value es) k.value v.value es
 
 -- the number of each key j after a MARK of key k with v: after a no, as it was
 abbrev pub numbers_after : Answer → ℕ → ℕ → List Entry → ℕ → Option ℕ
@@ -119,8 +113,8 @@ former_of k es = record { key = k; number = found k es }
 -- the entry of an operation's key before it
 abbrev pub former : List Entry → Option RollOperation → Former
 former es None = former_of 0 es
-former es (Some (Find k)) = former_of k es
-former es (Some (Mark k v)) = former_of k es
+former es (Some (Find k)) = former_of k.value es
+former es (Some (Mark k v)) = former_of k.value es
 
 -- the entries with the number of a key put back, or the key taken out if it was absent
 abbrev pub put_back : Option ℕ → ℕ → List Entry → List Entry

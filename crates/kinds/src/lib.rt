@@ -4,6 +4,7 @@
 pub mod answer;
 pub mod join;
 pub mod kind;
+pub mod number;
 pub mod operation;
 pub mod queue;
 pub mod roll;

@@ -2,6 +2,8 @@
 ghost use Rattle.std.specs.Prelude.{◌≡◌};
 ghost use Rattle.kinds.specs.Operations.{ranged, fits};
 
+use crate::number::AboveLargest;
+
 // The largest number in operations and states.
 pub const LARGEST: u32 = 999_999_999;
 
@@ -28,5 +30,15 @@ impl Operation {
         let first = if count > 0 { LARGEST } else { 0 };
         let second = if count > 1 { LARGEST } else { 0 };
         self.first <= first && self.second <= second
+    }
+}
+
+// The error of reading an operation that a kind does not know.
+#[derive(Clone, Copy, PartialEq, Eq, Debug)]
+pub struct UnknownOperation;
+
+impl From<AboveLargest> for UnknownOperation {
+    fn from(_above: AboveLargest) -> UnknownOperation {
+        UnknownOperation
     }
 }

@@ -1,12 +1,12 @@
 -- Short lists: what putting an item in and taking one out leave.
 use Rattle.std.specs.Prelude.{◌≡◌, ℕ, zero, suc, ◌+◌, ◌-◌, ◌<◌, ◌≤◌, Bool, true, ◌&&◌, List, [], ◌∷◌, ◌++◌, length, take, drop, ◌==◌, nat_le, slice_set, refl}
 use Rattle.std.proofs.Common.{sym, ap, ◌∙◌, arith, length-set}
-use Rattle.std.specs.List.{insert, remove}
+use Rattle.std.specs.List.{insert, remove, list_all}
 use Rattle.std.proofs.lemmas.List.{length-take-le}
 use Rattle.std.proofs.lemmas.Bool.{le-leb, eq-eqb, leb-true, eqb-true, and_parts, and_from}
 use Rattle.std.proofs.lemmas.List.Edits.{length-insert, length-remove}
 use Rattle.kinds.specs.declared.short_list.ShortList.{ShortList}
-use Rattle.kinds.specs.ShortLists.{room, items, padded, packed, all, packs, holds}
+use Rattle.kinds.specs.ShortLists.{room, items, padded, packed, packs, holds, pushed, pulled}
 
 module _ {T : Type 0} (b : T) where
   -- without its last place
@@ -45,7 +45,7 @@ module _ {T : Type 0} (b : T) where
       rw e (ap (λ (ys : List T). y ∷ ys) (padded_in at n x xs (omega arith) (omega arith)))
 
   -- an item taken out of the places is taken out of the items
-  padded_out : (at n : ℕ) (xs : List T) → at < length xs → length xs ≤ n → take at (padded n b xs) ++ (drop (at + 1) (padded n b xs) ++ b ∷ []) ≡ padded n b (remove xs at)
+  padded_out : (at n : ℕ) (xs : List T) → at < length xs → length xs ≤ n → pulled at b (padded n b xs) ≡ padded n b (remove xs at)
   padded_out at n [] h k = absurd (omega arith)
   padded_out at zero (y ∷ xs) h k = absurd (omega arith)
   padded_out zero (suc n) (y ∷ xs) h k = padded_more n xs (omega arith)
@@ -65,63 +65,61 @@ module _ {T : Type 0} (b : T) where
   counts l h = sym (ap (λ (m : ShortList T). m.count) h)
 
   -- an item put into a short list
-  pub packed_in : (l : ShortList T) (at : ℕ) (x : T) (ps : List T) → l ≡ packed b (items l) → at ≤ l.count → l.count < room → ps ≡ take at l.places ++ x ∷ take (length l.places - 1 - at) (drop at l.places) → ◌≡◌ {A = ShortList T} (record { count = l.count + 1; places = ps }) (packed b (insert (items l) at x))
-  packed_in l at x ps h within few e =
-      let n : length (items l) ≡ l.count = counts l h in
-      let more : l.count + 1 ≡ length (insert (items l) at x) = omega (arith, length-insert (items l) at x (omega arith)) in
-      let put : List T → List T = λ qs. take at qs ++ x ∷ take (length qs - 1 - at) (drop at qs) in
-      let k : length (padded room b (items l)) ≡ room = length_padded room (items l) in
-      let q : ps ≡ padded room b (insert (items l) at x) =
-      e ∙ ap put (ap (λ (m : ShortList T). m.places) h) ∙ ap (λ (j : ℕ). take at (padded room b (items l)) ++ x ∷ take (j - 1 - at) (drop at (padded room b (items l)))) k
+  pub packed_in : (l m : ShortList T) (at : ℕ) (x : T) → l ≡ packed b (items l) → at ≤ l.count → l.count < room → m.count ≡ l.count + 1 → m.places ≡ pushed at x l.places → m ≡ packed b (insert (items l) at x)
+  packed_in l m at x h within few n e =
+      let k : length (items l) ≡ l.count = counts l h in
+      let more : m.count ≡ length (insert (items l) at x) = omega (arith, n, length-insert (items l) at x (omega arith)) in
+      let q : m.places ≡ padded room b (insert (items l) at x) =
+      e ∙ ap (λ (o : ShortList T). pushed at x o.places) h ∙ ap (λ (j : ℕ). take at (padded room b (items l)) ++ x ∷ take (j - 1 - at) (drop at (padded room b (items l)))) (length_padded room (items l))
       ∙ padded_in at room x (items l) (omega arith) (omega arith) in
       λ i. record { count = more i; places = q i }
 
   -- an item taken out of a short list
-  pub packed_out : (l : ShortList T) (at : ℕ) (ps : List T) → l ≡ packed b (items l) → at < l.count → l.count ≤ room → ps ≡ take at l.places ++ (drop (at + 1) l.places ++ b ∷ []) → ◌≡◌ {A = ShortList T} (record { count = l.count - 1; places = ps }) (packed b (remove (items l) at))
-  packed_out l at ps h within few e =
-      let n : length (items l) ≡ l.count = counts l h in
-      let fewer : l.count - 1 ≡ length (remove (items l) at) = omega (arith, length-remove (items l) at (omega arith)) in
-      let out : List T → List T = λ qs. take at qs ++ (drop (at + 1) qs ++ b ∷ []) in
-      let q : ps ≡ padded room b (remove (items l) at) =
-      e ∙ ap out (ap (λ (m : ShortList T). m.places) h) ∙ padded_out at room (items l) (omega arith) (omega arith) in
+  pub packed_out : (l m : ShortList T) (at : ℕ) → l ≡ packed b (items l) → at < l.count → l.count ≤ room → m.count ≡ l.count - 1 → m.places ≡ pulled at b l.places → m ≡ packed b (remove (items l) at)
+  packed_out l m at h within few n e =
+      let k : length (items l) ≡ l.count = counts l h in
+      let fewer : m.count ≡ length (remove (items l) at) = omega (arith, n, length-remove (items l) at (omega arith)) in
+      let q : m.places ≡ padded room b (remove (items l) at) =
+      e ∙ ap (λ (o : ShortList T). pulled at b o.places) h ∙ padded_out at room (items l) (omega arith) (omega arith) in
       λ i. record { count = fewer i; places = q i }
 
   -- an item in another's place of a short list
-  pub packed_set : (l : ShortList T) (at : ℕ) (x : T) → l ≡ packed b (items l) → at < l.count → l.count ≤ room → ◌≡◌ {A = ShortList T} (record { count = l.count; places = slice_set l.places at x }) (packed b (slice_set (items l) at x))
-  packed_set l at x h within few =
-      let n : length (items l) ≡ l.count = counts l h in
-      let same : l.count ≡ length (slice_set (items l) at x) = omega (arith, length-set (items l) at x) in
-      let q = ap (λ (m : ShortList T). slice_set m.places at x) h ∙ padded_set at room x (items l) (omega arith) (omega arith) in
+  pub packed_set : (l m : ShortList T) (at : ℕ) (x : T) → l ≡ packed b (items l) → at < l.count → l.count ≤ room → m.count ≡ l.count → m.places ≡ slice_set l.places at x → m ≡ packed b (slice_set (items l) at x)
+  packed_set l m at x h within few n e =
+      let k : length (items l) ≡ l.count = counts l h in
+      let same : m.count ≡ length (slice_set (items l) at x) = omega (arith, n, length-set (items l) at x) in
+      let q : m.places ≡ padded room b (slice_set (items l) at x) =
+      e ∙ ap (λ (o : ShortList T). slice_set o.places at x) h ∙ padded_set at room x (items l) (omega arith) (omega arith) in
       λ i. record { count = same i; places = q i }
 
 -- where there are twelve places and no more items, the places past them decide
-pub packs_is : {T : Type 0} (blank : T → Bool) (l : ShortList T) → l.count ≤ room → length l.places ≡ room → packs blank l ≡ all blank (drop l.count l.places)
+pub packs_is : {T : Type 0} (blank : T → Bool) (l : ShortList T) → l.count ≤ room → length l.places ≡ room → packs blank l ≡ list_all blank (drop l.count l.places)
 packs_is blank l few n = rw (le-leb l.count room few, eq-eqb (length l.places) room n)
 
 module _ {T : Type 0} (blank : T → Bool) (b : T) (only : (x : T) → blank x ≡ true → x ≡ b) (is_b : blank b ≡ true) where
   -- blanks past the items are what padding puts there
-  repadded : (n k : ℕ) (ps : List T) → length ps ≡ n → k ≤ n → all blank (drop k ps) ≡ true → ps ≡ padded n b (take k ps)
+  repadded : (n k : ℕ) (ps : List T) → length ps ≡ n → k ≤ n → list_all blank (drop k ps) ≡ true → ps ≡ padded n b (take k ps)
   repadded zero k [] n h e = refl
   repadded zero k (p ∷ ps) n h e = absurd (omega arith)
   repadded (suc m) k [] n h e = absurd (omega arith)
   repadded (suc m) zero (p ∷ ps) n h e =
-      let parts = and_parts (blank p) (all blank ps) e in
+      let parts = and_parts (blank p) (list_all blank ps) e in
       let rest : ps ≡ padded m b [] = repadded m zero ps (omega arith) (omega arith) parts.1 in
       λ i. only p parts.0 i ∷ rest i
   repadded (suc m) (suc k) (p ∷ ps) n h e = ap (λ (ys : List T). p ∷ ys) (repadded m k ps (omega arith) (omega arith) e)
 
   -- what padding puts past the items is blank
-  blank_past : (n : ℕ) (xs : List T) → length xs ≤ n → all blank (drop (length xs) (padded n b xs)) ≡ true
+  blank_past : (n : ℕ) (xs : List T) → length xs ≤ n → list_all blank (drop (length xs) (padded n b xs)) ≡ true
   blank_past zero [] h = refl
   blank_past zero (x ∷ xs) h = absurd (omega arith)
-  blank_past (suc n) [] h = and_from (blank b) (all blank (padded n b [])) is_b (blank_past n [] (omega arith))
+  blank_past (suc n) [] h = and_from (blank b) (list_all blank (padded n b [])) is_b (blank_past n [] (omega arith))
   blank_past (suc n) (x ∷ xs) h = blank_past n xs (omega arith)
 
   -- a short list that packs is that of its items
   pub packed_own : (l : ShortList T) → packs blank l ≡ true → (l.count ≤ room) × (l ≡ packed b (items l))
   packed_own l e =
-      let parts = and_parts (nat_le l.count room) (length l.places == room && all blank (drop l.count l.places)) e in
-      let more = and_parts (length l.places == room) (all blank (drop l.count l.places)) parts.1 in
+      let parts = and_parts (nat_le l.count room) (length l.places == room && list_all blank (drop l.count l.places)) e in
+      let more = and_parts (length l.places == room) (list_all blank (drop l.count l.places)) parts.1 in
       let few = leb-true l.count room parts.0 in
       let whole = eqb-true (length l.places) room more.0 in
       let n : l.count ≡ length (items l) = sym (length-take-le l.count l.places (omega arith)) in
@@ -150,26 +148,24 @@ module _ {T : Type 0} (blank : T → Bool) (b : T) (only : (x : T) → blank x �
       pub held_length : length (items l) ≡ l.count
       held_length = counts b l held.1
 
+      -- a row of up to twelve items that pass the test
+      remade : (m : ShortList T) (xs : List T) → m ≡ packed b xs → length xs ≤ room → good xs ≡ true → (holds blank good m ≡ true) × (items m ≡ xs)
+      remade m xs p n g = (ap (holds blank good) p ∙ holds_packed xs n g, ap items p ∙ take_all_padded b room xs n)
+
       -- an item put in
-      pub held_in : (at : ℕ) (x : T) (ps : List T) → at ≤ l.count → l.count < room → good (insert (items l) at x) ≡ true → ps ≡ take at l.places ++ x ∷ take (length l.places - 1 - at) (drop at l.places) → (holds blank good (record { count = l.count + 1; places = ps }) ≡ true) × (items (record { count = l.count + 1; places = ps }) ≡ insert (items l) at x)
-      held_in at x ps within few g f =
+      pub held_in : (m : ShortList T) (at : ℕ) (x : T) → at ≤ l.count → l.count < room → good (insert (items l) at x) ≡ true → m.count ≡ l.count + 1 → m.places ≡ pushed at x l.places → (holds blank good m ≡ true) × (items m ≡ insert (items l) at x)
+      held_in m at x within few g n e =
           let k = held_length in
-          let p = packed_in b l at x ps held.1 within few f in
-          let n : length (insert (items l) at x) ≤ room = omega (arith, length-insert (items l) at x (omega arith)) in
-          (ap (holds blank good) p ∙ holds_packed (insert (items l) at x) n g, ap items p ∙ take_all_padded b room (insert (items l) at x) n)
+          remade m (insert (items l) at x) (packed_in b l m at x held.1 within few n e) (omega (arith, length-insert (items l) at x (omega arith))) g
 
       -- an item taken out
-      pub held_out : (at : ℕ) (ps : List T) → at < l.count → good (remove (items l) at) ≡ true → ps ≡ take at l.places ++ (drop (at + 1) l.places ++ b ∷ []) → (holds blank good (record { count = l.count - 1; places = ps }) ≡ true) × (items (record { count = l.count - 1; places = ps }) ≡ remove (items l) at)
-      held_out at ps within g f =
+      pub held_out : (m : ShortList T) (at : ℕ) → at < l.count → good (remove (items l) at) ≡ true → m.count ≡ l.count - 1 → m.places ≡ pulled at b l.places → (holds blank good m ≡ true) × (items m ≡ remove (items l) at)
+      held_out m at within g n e =
           let k = held_length in
-          let p = packed_out b l at ps held.1 within held.0 f in
-          let n : length (remove (items l) at) ≤ room = omega (arith, length-remove (items l) at (omega arith), held.0) in
-          (ap (holds blank good) p ∙ holds_packed (remove (items l) at) n g, ap items p ∙ take_all_padded b room (remove (items l) at) n)
+          remade m (remove (items l) at) (packed_out b l m at held.1 within held.0 n e) (omega (arith, length-remove (items l) at (omega arith), held.0)) g
 
       -- an item in another's place
-      pub held_set : (at : ℕ) (x : T) → at < l.count → good (slice_set (items l) at x) ≡ true → (holds blank good (record { count = l.count; places = slice_set l.places at x }) ≡ true) × (items (record { count = l.count; places = slice_set l.places at x }) ≡ slice_set (items l) at x)
-      held_set at x within g =
+      pub held_set : (m : ShortList T) (at : ℕ) (x : T) → at < l.count → good (slice_set (items l) at x) ≡ true → m.count ≡ l.count → m.places ≡ slice_set l.places at x → (holds blank good m ≡ true) × (items m ≡ slice_set (items l) at x)
+      held_set m at x within g n e =
           let k = held_length in
-          let p = packed_set b l at x held.1 within held.0 in
-          let n : length (slice_set (items l) at x) ≤ room = omega (arith, length-set (items l) at x, held.0) in
-          (ap (holds blank good) p ∙ holds_packed (slice_set (items l) at x) n g, ap items p ∙ take_all_padded b room (slice_set (items l) at x) n)
+          remade m (slice_set (items l) at x) (packed_set b l m at x held.1 within held.0 n e) (omega (arith, length-set (items l) at x, held.0)) g

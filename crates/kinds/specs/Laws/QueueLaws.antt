@@ -2,17 +2,17 @@
 use Rattle.std.specs.Prelude.{◌≡◌, ℕ, zero, suc, ◌+◌, ◌-◌, ◌<◌, ◌≤◌, true, false, List, [], ◌∷◌, ◌++◌, length, take, drop, Some, None, Option, nat_le, slice_index_or, refl}
 use Rattle.std.proofs.Common.{ap, sym, ◌∙◌, arith}
 use Rattle.std.specs.Option.{unwrap_or}
-use Rattle.std.specs.List.{insert, remove}
+use Rattle.std.specs.List.{insert, remove, list_all}
 use Rattle.std.proofs.lemmas.Bool.{eqb-true, lt-ltb, le-ltb, lt-leb, leb-true, leb-false, and_left, and_right}
 use Rattle.std.proofs.lemmas.List.{length-take, drop_all, append-nil}
-use Rattle.kinds.specs.Outcomes.{Answer}
+use Rattle.kinds.specs.Outcomes.{Answer, yes_to, no_to, turned, left_by}
 use Rattle.kinds.specs.declared.short_list.ShortList.{ShortList}
+use Rattle.kinds.specs.declared.number.value.Number.{Number}
 use Rattle.kinds.specs.declared.queue.state.Queue.{Queue}
-use Rattle.kinds.specs.Outcomes.{yes_to, no_to, turned, left_by}
 use Rattle.kinds.specs.QueueRows.{blank_number, is_queue}
 use Rattle.kinds.specs.Operations.{ranged}
 use Rattle.kinds.specs.Queues.{entries, front_of, entries_after, entries_before, end_move, read_queue, queue_of}
-use Rattle.kinds.specs.ShortLists.{room, items, packed, all}
+use Rattle.kinds.specs.ShortLists.{room, items, packed, pushed, pulled}
 use Rattle.kinds.specs.declared.queue.operation.QueueOperation.TheVariants.{Front, Put, Next}
 use Rattle.kinds.specs.declared.queue.operation.EndMove.TheVariants.{Stayed, BackJoined, FrontLeft}
 use Rattle.kinds.specs.Laws.Alls.{all_inserted, all_removed}
@@ -28,26 +28,34 @@ only_zero : (n : ℕ) → blank_number n ≡ true → n ≡ 0
 only_zero n e = eqb-true n 0 e
 
 -- a queue has at most twelve entries, its row is theirs, and each is at most the largest number
-pub queue_held : (q : Queue) → (q.row.count ≤ room) × (q.row ≡ packed 0 (entries q)) × (all ranged (entries q) ≡ true)
-queue_held q = packing.held blank_number 0 only_zero refl (all ranged) q.row q.sound
+pub queue_held : (q : Queue) → (q.row.count ≤ room) × (q.row ≡ packed 0 (entries q)) × (list_all ranged (entries q) ≡ true)
+queue_held q = packing.held blank_number 0 only_zero refl (list_all ranged) q.row q.sound
 
 -- as many entries as the row counts
 pub entries_length : (q : Queue) → length (entries q) ≡ q.row.count
-entries_length q = packing.held_length blank_number 0 only_zero refl (all ranged) q.row q.sound
+entries_length q = packing.held_length blank_number 0 only_zero refl (list_all ranged) q.row q.sound
 
 -- up to twelve entries in range are a queue's
-pub queue_made : (xs : List ℕ) → length xs ≤ room → all ranged xs ≡ true → (q : Queue) × (entries q ≡ xs)
-queue_made xs h e = (record { row = packed 0 xs; sound = packing.holds_packed blank_number 0 only_zero refl (all ranged) xs h e }, packing.take_all_padded 0 room xs h)
+pub queue_made : (xs : List ℕ) → length xs ≤ room → list_all ranged xs ≡ true → (q : Queue) × (entries q ≡ xs)
+queue_made xs h e = (record { row = packed 0 xs; sound = packing.holds_packed blank_number 0 only_zero refl (list_all ranged) xs h e }, packing.take_all_padded 0 room xs h)
 
 -- an entry put in
-pub entry_in : (q : Queue) (at n : ℕ) (ps : List ℕ) → at ≤ q.row.count → q.row.count < room → ranged n ≡ true → ps ≡ take at q.row.places ++ n ∷ take (length q.row.places - 1 - at) (drop at q.row.places) → (is_queue (record { count = q.row.count + 1; places = ps }) ≡ true) × (items (record { count = q.row.count + 1; places = ps }) ≡ insert (entries q) at n)
-entry_in q at n ps within few r e =
-    packing.held_in blank_number 0 only_zero refl (all ranged) q.row q.sound at n ps within few (all_inserted ranged (entries q) at n (queue_held q).2 r) e
+pub entry_in : (q : Queue) (m : ShortList ℕ) (at n : ℕ) → at ≤ q.row.count → q.row.count < room → ranged n ≡ true → m.count ≡ q.row.count + 1 → m.places ≡ pushed at n q.row.places → (is_queue m ≡ true) × (items m ≡ insert (entries q) at n)
+entry_in q m at n within few r k e =
+    packing.held_in blank_number 0 only_zero refl (list_all ranged) q.row q.sound m at n within few (all_inserted ranged (entries q) at n (queue_held q).2 r) k e
+
+-- a number put at the back
+pub put_in : (q : Queue) (m : ShortList ℕ) (n : Number) → nat_le room q.row.count ≡ false → m.count ≡ q.row.count + 1 → m.places ≡ pushed q.row.count n.value q.row.places → (is_queue m ≡ true) × (items m ≡ insert (entries q) q.row.count n.value)
+put_in q m n h k e = entry_in q m q.row.count n.value (omega arith) (omega (arith, leb-false room q.row.count h)) n.in_range k e
+
+-- a number put at the front
+pub front_in : (q : Queue) (m : ShortList ℕ) (n : ℕ) → nat_le room q.row.count ≡ false → ranged n ≡ true → m.count ≡ q.row.count + 1 → m.places ≡ pushed 0 n q.row.places → (is_queue m ≡ true) × (items m ≡ n ∷ entries q)
+front_in q m n h r k e = entry_in q m 0 n (omega arith) (omega (arith, leb-false room q.row.count h)) r k e
 
 -- an entry taken out
-pub entry_out : (q : Queue) (at : ℕ) (ps : List ℕ) → at < q.row.count → ps ≡ take at q.row.places ++ (drop (at + 1) q.row.places ++ 0 ∷ []) → (is_queue (record { count = q.row.count - 1; places = ps }) ≡ true) × (items (record { count = q.row.count - 1; places = ps }) ≡ remove (entries q) at)
-entry_out q at ps within e =
-    packing.held_out blank_number 0 only_zero refl (all ranged) q.row q.sound at ps within (all_removed ranged (entries q) at (queue_held q).2) e
+pub entry_out : (q : Queue) (m : ShortList ℕ) (at : ℕ) → at < q.row.count → m.count ≡ q.row.count - 1 → m.places ≡ pulled at 0 q.row.places → (is_queue m ≡ true) × (items m ≡ remove (entries q) at)
+entry_out q m at within k e =
+    packing.held_out blank_number 0 only_zero refl (list_all ranged) q.row q.sound m at within (all_removed ranged (entries q) at (queue_held q).2) k e
 
 -- a queue is the one of its row
 pub read_own : (q : Queue) → read_queue q.row ≡ Some q
@@ -92,20 +100,21 @@ front_none_is [] e = refl
 front_none_is (y ∷ xs) e = absurd (let z : ◌≡◌ {A = ℕ} 0 1 = cc in omega arith)
 
 -- the answers of FRONT, PUT and NEXT
-pub front_none : (q : Queue) → entries q ≡ [] → left_by queue_of q (entries_after (entries q) Front) ≡ no_to q
-front_none q e = ap (λ (es : List ℕ). left_by queue_of q (entries_after es Front)) e ∙ left_own q q None [] e
+front_table : (xs : List ℕ) → entries_after xs Front ≡ (front_of xs, xs)
+front_table [] = refl
+front_table (x ∷ xs) = refl
 
-pub front_some : (q : Queue) (x : ℕ) (xs : List ℕ) → entries q ≡ x ∷ xs → left_by queue_of q (entries_after (entries q) Front) ≡ yes_to x q
-front_some q x xs e = ap (λ (es : List ℕ). left_by queue_of q (entries_after es Front)) e ∙ left_own q q (Some x) (x ∷ xs) e
+pub front_answers : (q : Queue) (a : Answer) → a ≡ front_of (entries q) → left_by queue_of q (entries_after (entries q) Front) ≡ record { answer = a; next = q }
+front_answers q a e = ap (left_by queue_of q) (front_table (entries q)) ∙ left_own q q (front_of (entries q)) (entries q) refl ∙ ap (λ (b : Answer). record { answer = b; next = q }) (sym e)
 
-pub put_none : (q : Queue) (n : ℕ) → nat_le room q.row.count ≡ true → left_by queue_of q (entries_after (entries q) (Put n)) ≡ no_to q
+pub put_none : (q : Queue) (n : Number) → nat_le room q.row.count ≡ true → left_by queue_of q (entries_after (entries q) (Put n)) ≡ no_to q
 put_none q n h = rw (le-ltb (length (entries q)) room (omega (arith, entries_length q, leb-true room q.row.count h))) (left_own q q None (entries q) refl)
 
-pub put_some : (q p : Queue) (n : ℕ) → nat_le room q.row.count ≡ false → entries p ≡ insert (entries q) q.row.count n → left_by queue_of q (entries_after (entries q) (Put n)) ≡ yes_to (q.row.count + 1) p
-put_some q p n h e =
+pub put_some : (q p : Queue) (n : Number) (count : ℕ) → nat_le room q.row.count ≡ false → count ≡ q.row.count + 1 → entries p ≡ insert (entries q) q.row.count n.value → left_by queue_of q (entries_after (entries q) (Put n)) ≡ yes_to count p
+put_some q p n count h c e =
     let k = entries_length q in
-    let f : entries p ≡ entries q ++ n ∷ [] = e ∙ ap (λ (i : ℕ). insert (entries q) i n) (sym k) ∙ inserted_end (entries q) n in
-    rw (lt-ltb (length (entries q)) room (omega (arith, leb-false room q.row.count h))) (left_own q p (Some (length (entries q) + 1)) (entries q ++ n ∷ []) f ∙ ap (λ (m : ℕ). yes_to (m + 1) p) k)
+    let f : entries p ≡ entries q ++ n.value ∷ [] = e ∙ ap (λ (i : ℕ). insert (entries q) i n.value) (sym k) ∙ inserted_end (entries q) n.value in
+    rw (lt-ltb (length (entries q)) room (omega (arith, leb-false room q.row.count h))) (left_own q p (Some (length (entries q) + 1)) (entries q ++ n.value ∷ []) f ∙ ap (λ (m : ℕ). yes_to m p) (omega (arith, k, c)))
 
 pub next_none : (q : Queue) → entries q ≡ [] → left_by queue_of q (entries_after (entries q) Next) ≡ no_to q
 next_none q e = ap (λ (es : List ℕ). left_by queue_of q (entries_after es Next)) e ∙ left_own q q None [] e
@@ -137,8 +146,8 @@ removed_end xs k e =
 pub back_none : (q : Queue) → entries q ≡ [] → q ≡ turned queue_of q (entries_before (entries q) BackJoined)
 back_none q e = turned_into q q (take (length (entries q) - 1) (entries q)) (e ∙ sym (ap (λ (es : List ℕ). take (length es - 1) es) e))
 
-pub back_some : (q p : Queue) → 0 < q.row.count → entries p ≡ remove (entries q) (q.row.count - 1) → p ≡ turned queue_of q (entries_before (entries q) BackJoined)
-back_some q p h e = turned_into q p _ (e ∙ removed_end (entries q) (q.row.count - 1) (omega (arith, entries_length q)))
+pub back_some : (q p : Queue) (last : ℕ) → q.row.count ≡ last + 1 → entries p ≡ remove (entries q) last → p ≡ turned queue_of q (entries_before (entries q) BackJoined)
+back_some q p last h e = turned_into q p _ (e ∙ removed_end (entries q) last (omega (arith, entries_length q)))
 
 -- undoing at the front
 pub front_refused : (q : Queue) (n : ℕ) → is_queue (packed 0 (n ∷ entries q)) ≡ false → q ≡ turned queue_of q (entries_before (entries q) (FrontLeft n))
@@ -150,4 +159,4 @@ front_full q n h = front_refused q n (and_left _ _ (and_left _ _ (lt-leb (length
 pub front_above : (q : Queue) (n : ℕ) → nat_le room q.row.count ≡ false → ranged n ≡ false → q ≡ turned queue_of q (entries_before (entries q) (FrontLeft n))
 front_above q n h e =
     let k : length (n ∷ entries q) ≤ room = omega (arith, entries_length q, leb-false room q.row.count h) in
-    front_refused q n (and_right _ _ (ap (all ranged) (packing.take_all_padded 0 room (n ∷ entries q) k) ∙ and_left (ranged n) _ e))
+    front_refused q n (and_right _ _ (ap (list_all ranged) (packing.take_all_padded 0 room (n ∷ entries q) k) ∙ and_left (ranged n) _ e))

@@ -2,22 +2,21 @@
 use Rattle.std.specs.Prelude.{◌≡◌, ℕ, ◌≤◌, true, List, length, Some, None, Option, nat_lt, refl}
 use Rattle.std.proofs.Common.{ap, sym, ◌∙◌, ⊎_elim, arith, length-set}
 use Rattle.std.proofs.lemmas.List.Edits.{length-insert}
-use Rattle.std.proofs.lemmas.Bool.{cond_both, cases_Bool, ltb-true}
+use Rattle.std.proofs.lemmas.Bool.{cases_Bool, ltb-true}
 use Rattle.std.proofs.lemmas.Bool.Decides.{nat_tests}
 use Rattle.kinds.specs.declared.answer.Class.TheVariants.{Read, Write}
 use Rattle.kinds.specs.declared.answer.Outcome.{Outcome}
-use Rattle.kinds.specs.declared.operation.Operation.{Operation}
+use Rattle.kinds.specs.declared.number.value.Number.{Number}
 use Rattle.kinds.specs.declared.roll.entry.Entry.{Entry}
 use Rattle.kinds.specs.declared.roll.operation.RollOperation.{RollOperation}
 use Rattle.kinds.specs.declared.roll.operation.RollOperation.TheVariants.{Find, Mark}
 use Rattle.kinds.specs.declared.roll.state.Roll.{Roll}
-use Rattle.kinds.specs.Operations.{is, ranged}
+use Rattle.kinds.specs.Operations.{ranged}
 use Rattle.kinds.specs.Outcomes.{turned, left_by, by_table}
 use Rattle.kinds.specs.RollRows.{rising}
 use Rattle.kinds.specs.RollPlaces.{smaller}
-use Rattle.kinds.specs.Rolls.{entry, marks, found, find_after, mark_after, marks_after, marks_before, put_back, former, RollBound, roll_class, roll_operation, roll_of}
+use Rattle.kinds.specs.Rolls.{entry, marks, found, find_after, mark_after, marks_after, marks_before, put_back, former, roll_class, roll_of}
 use Rattle.kinds.specs.ShortLists.{room}
-use Rattle.kinds.specs.Laws.Fitting.{fits_first, fits_second}
 use Rattle.kinds.specs.Laws.Rising
 use Rattle.kinds.specs.Laws.RollLaws.{roll_own, roll_held, roll_made, marks_length}
 use Rattle.kinds.specs.Laws.Tables as tables
@@ -33,15 +32,15 @@ mark_keeps None k v es e = grind (arith, nat_tests)
 mark_keeps (Some old) k v es e = absurd (let z : ◌≡◌ {A = ℕ} 0 1 = cc in omega arith)
 
 no_keeps : (es : List Entry) (p : RollOperation) → (marks_after es p).0 ≡ None → (marks_after es p).1 ≡ es
-no_keeps es (Find k) e = find_keeps (found k es) es
-no_keeps es (Mark k v) e = mark_keeps (found k es) k v es e
+no_keeps es (Find k) e = find_keeps (found k.value es) es
+no_keeps es (Mark k v) e = mark_keeps (found k.value es) k.value v.value es e
 
 pub no_leaves_state : (r : Roll) (p : Option RollOperation) → (by_table roll_of (marks_after (marks r)) r p).answer ≡ None → (by_table roll_of (marks_after (marks r)) r p).next ≡ r
 no_leaves_state r p e = tables.no_leaves roll_of marks roll_own (marks_after (marks r)) r p (no_keeps (marks r)) e
 
 pub read_leaves_state : (r : Roll) (p : Option RollOperation) → roll_class p ≡ Read → (by_table roll_of (marks_after (marks r)) r p).next ≡ r
 read_leaves_state r None e = refl
-read_leaves_state r (Some (Find k)) e = tables.turned_own roll_of marks roll_own r r _ (sym (find_keeps (found k (marks r)) (marks r)))
+read_leaves_state r (Some (Find k)) e = tables.turned_own roll_of marks roll_own r r _ (sym (find_keeps (found k.value (marks r)) (marks r)))
 read_leaves_state r (Some (Mark k v)) e = absurd (let z : ◌≡◌ {A = ℕ} 0 1 = cc in omega arith)
 
 -- a MARK leaves at most twelve entries
@@ -65,33 +64,28 @@ mark_restored k v es None f r =
     ⊎_elim (λ t. rw t (Rising.without_back k v es f)) (λ t. rw t (Rising.without_absent k es f)) (cases_Bool (nat_lt (length es) room))
 
 -- a MARK leaves the entries of a roll
-mark_made : (r : Roll) (k v : ℕ) → ranged k ≡ true → ranged v ≡ true → (u : Roll) × (marks u ≡ (marks_after (marks r) (Mark k v)).1)
-mark_made r k v rk rv =
+mark_made : (r : Roll) (k v : Number) → (u : Roll) × (marks u ≡ (marks_after (marks r) (Mark k v)).1)
+mark_made r k v =
     let es = marks r in
     let h = roll_held r in
-    roll_made (mark_after (found k es) k v es).1 (mark_few k v es (found k es) refl h.2 (omega (arith, marks_length r, h.0))) (mark_rises k v es (found k es) rk rv h.2)
+    let old = found k.value es in
+    roll_made (mark_after old k.value v.value es).1 (mark_few k.value v.value es old refl h.2 (omega (arith, marks_length r, h.0))) (mark_rises k.value v.value es old k.in_range v.in_range h.2)
 
-pub undo_leads_back : (r : Roll) (p : Option RollOperation) → RollBound p → roll_class p ≡ Write → let u = (by_table roll_of (marks_after (marks r)) r p).next in turned roll_of u (marks_before (marks u) (former (marks r) p)) ≡ r
-undo_leads_back r None b e = absurd (let z : ◌≡◌ {A = ℕ} 0 1 = cc in omega arith)
-undo_leads_back r (Some (Find k)) b e = absurd (let z : ◌≡◌ {A = ℕ} 0 1 = cc in omega arith)
-undo_leads_back r (Some (Mark k v)) b e =
+pub undo_leads_back : (r : Roll) (p : Option RollOperation) → roll_class p ≡ Write → let u = (by_table roll_of (marks_after (marks r)) r p).next in turned roll_of u (marks_before (marks u) (former (marks r) p)) ≡ r
+undo_leads_back r None e = absurd (let z : ◌≡◌ {A = ℕ} 0 1 = cc in omega arith)
+undo_leads_back r (Some (Find k)) e = absurd (let z : ◌≡◌ {A = ℕ} 0 1 = cc in omega arith)
+undo_leads_back r (Some (Mark k v)) e =
     let es = marks r in
-    let made = mark_made r k v b.0 b.1 in
-    tables.undo_returns roll_of marks roll_own marks_before r made.0 _ (former es (Some (Mark k v))) made.1 (mark_restored k v es (found k es) refl (roll_held r).2)
-
--- the operation that a code stands for is in range
-pub operation_in_range : (o : Operation) → RollBound (roll_operation o)
-operation_in_range o =
-    cond_both (is 21 1 o) (Some (Find o.first)) _ RollBound (λ e. fits_first 21 1 o e)
-    (λ _. cond_both (is 22 2 o) (Some (Mark o.first o.second)) None RollBound (λ e. (fits_first 22 2 o e, fits_second 22 2 o e)) (λ _. tt))
+    let made = mark_made r k v in
+    tables.undo_returns roll_of marks roll_own marks_before r made.0 _ (former es (Some (Mark k v))) made.1 (mark_restored k.value v.value es (found k.value es) refl (roll_held r).2)
 
 -- FIND leaves the entries
-pub after_find : (r : Roll) (k : ℕ) (x : Outcome Roll) → x ≡ left_by roll_of r (marks_after (marks r) (Find k)) → marks x.next ≡ (marks_after (marks r) (Find k)).1
+pub after_find : (r : Roll) (k : Number) (x : Outcome Roll) → x ≡ left_by roll_of r (marks_after (marks r) (Find k)) → marks x.next ≡ (marks_after (marks r) (Find k)).1
 after_find r k x e =
-    ap (λ (y : Outcome Roll). marks y.next) e ∙ tables.left_content roll_of marks roll_own r r (marks_after (marks r) (Find k)) (sym (find_keeps (found k (marks r)) (marks r)))
+    ap (λ (y : Outcome Roll). marks y.next) e ∙ tables.left_content roll_of marks roll_own r r (marks_after (marks r) (Find k)) (sym (find_keeps (found k.value (marks r)) (marks r)))
 
 -- the entries after a MARK are the table's
-pub after_mark : (r : Roll) (k v : ℕ) (x : Outcome Roll) → ranged k ≡ true → ranged v ≡ true → x ≡ left_by roll_of r (marks_after (marks r) (Mark k v)) → marks x.next ≡ (marks_after (marks r) (Mark k v)).1
-after_mark r k v x rk rv e =
-    let made = mark_made r k v rk rv in
+pub after_mark : (r : Roll) (k v : Number) (x : Outcome Roll) → x ≡ left_by roll_of r (marks_after (marks r) (Mark k v)) → marks x.next ≡ (marks_after (marks r) (Mark k v)).1
+after_mark r k v x e =
+    let made = mark_made r k v in
     ap (λ (y : Outcome Roll). marks y.next) e ∙ tables.left_content roll_of marks roll_own r made.0 (marks_after (marks r) (Mark k v)) made.1

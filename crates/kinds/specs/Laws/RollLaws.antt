@@ -4,14 +4,13 @@ use Rattle.std.proofs.Common.{ap, sym, ◌∙◌, ⊎_elim}
 use Rattle.std.specs.Option.{unwrap_or}
 use Rattle.std.specs.List.{insert, remove}
 use Rattle.std.proofs.lemmas.Bool.{eqb-true, and_parts, cases_Bool}
-use Rattle.kinds.specs.Outcomes.{Answer}
+use Rattle.kinds.specs.Outcomes.{Answer, turned, left_by}
 use Rattle.kinds.specs.declared.roll.entry.Entry.{Entry}
 use Rattle.kinds.specs.declared.roll.state.Roll.{Roll}
 use Rattle.kinds.specs.declared.short_list.ShortList.{ShortList}
-use Rattle.kinds.specs.Outcomes.{turned, left_by}
 use Rattle.kinds.specs.RollRows.{blank_entry, rising, is_roll}
 use Rattle.kinds.specs.Rolls.{entry, marks, read_roll, roll_of}
-use Rattle.kinds.specs.ShortLists.{room, items, packed}
+use Rattle.kinds.specs.ShortLists.{room, items, packed, pushed, pulled}
 use Rattle.kinds.specs.Laws.Checks.{checked_passes, checked_fails, checked_made}
 use Rattle.kinds.specs.Laws.Packing as packing
 use Rattle.kinds.specs.Laws.Tables as tables
@@ -37,16 +36,16 @@ roll_made es h e =
     (record { row = packed (entry 0 0) es; sound = packing.holds_packed blank_entry (entry 0 0) only_blank refl (rising 0) es h e }, packing.take_all_padded (entry 0 0) room es h)
 
 -- an entry put in
-pub entry_in : (r : Roll) (at : ℕ) (x : Entry) (ps : List Entry) → at ≤ r.row.count → r.row.count < room → rising 0 (insert (marks r) at x) ≡ true → ps ≡ take at r.row.places ++ x ∷ take (length r.row.places - 1 - at) (drop at r.row.places) → (is_roll (record { count = r.row.count + 1; places = ps }) ≡ true) × (items (record { count = r.row.count + 1; places = ps }) ≡ insert (marks r) at x)
-entry_in r at x ps within few g e = packing.held_in blank_entry (entry 0 0) only_blank refl (rising 0) r.row r.sound at x ps within few g e
+pub entry_in : (r : Roll) (m : ShortList Entry) (at : ℕ) (x : Entry) → at ≤ r.row.count → r.row.count < room → rising 0 (insert (marks r) at x) ≡ true → m.count ≡ r.row.count + 1 → m.places ≡ pushed at x r.row.places → (is_roll m ≡ true) × (items m ≡ insert (marks r) at x)
+entry_in r m at x within few g k e = packing.held_in blank_entry (entry 0 0) only_blank refl (rising 0) r.row r.sound m at x within few g k e
 
 -- an entry in another's place
-pub entry_set : (r : Roll) (at : ℕ) (x : Entry) → at < r.row.count → rising 0 (slice_set (marks r) at x) ≡ true → (is_roll (record { count = r.row.count; places = slice_set r.row.places at x }) ≡ true) × (items (record { count = r.row.count; places = slice_set r.row.places at x }) ≡ slice_set (marks r) at x)
-entry_set r at x within g = packing.held_set blank_entry (entry 0 0) only_blank refl (rising 0) r.row r.sound at x within g
+pub entry_set : (r : Roll) (m : ShortList Entry) (at : ℕ) (x : Entry) → at < r.row.count → rising 0 (slice_set (marks r) at x) ≡ true → m.count ≡ r.row.count → m.places ≡ slice_set r.row.places at x → (is_roll m ≡ true) × (items m ≡ slice_set (marks r) at x)
+entry_set r m at x within g k e = packing.held_set blank_entry (entry 0 0) only_blank refl (rising 0) r.row r.sound m at x within g k e
 
 -- an entry taken out
-pub entry_out : (r : Roll) (at : ℕ) (ps : List Entry) → at < r.row.count → rising 0 (remove (marks r) at) ≡ true → ps ≡ take at r.row.places ++ (drop (at + 1) r.row.places ++ entry 0 0 ∷ []) → (is_roll (record { count = r.row.count - 1; places = ps }) ≡ true) × (items (record { count = r.row.count - 1; places = ps }) ≡ remove (marks r) at)
-entry_out r at ps within g e = packing.held_out blank_entry (entry 0 0) only_blank refl (rising 0) r.row r.sound at ps within g e
+pub entry_out : (r : Roll) (m : ShortList Entry) (at : ℕ) → at < r.row.count → rising 0 (remove (marks r) at) ≡ true → m.count ≡ r.row.count - 1 → m.places ≡ pulled at (entry 0 0) r.row.places → (is_roll m ≡ true) × (items m ≡ remove (marks r) at)
+entry_out r m at within g k e = packing.held_out blank_entry (entry 0 0) only_blank refl (rising 0) r.row r.sound m at within g k e
 
 -- a roll is the one of its row
 pub read_own : (r : Roll) → read_roll r.row ≡ Some r

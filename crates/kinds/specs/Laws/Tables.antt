@@ -2,8 +2,7 @@
 use Rattle.std.specs.Prelude.{◌≡◌, Some, None, Option, refl}
 use Rattle.std.proofs.Common.{ap, sym, ◌∙◌}
 use Rattle.std.specs.Option.{unwrap_or}
-use Rattle.kinds.specs.Outcomes.{Answer}
-use Rattle.kinds.specs.Outcomes.{turned, left_by, by_table}
+use Rattle.kinds.specs.Outcomes.{Answer, turned, left_by, by_table}
 
 module _ {S C : Type 0} (make : C → Option S) (content : S → C) (own : (s : S) → make (content s) ≡ Some s) where
   -- the content of a state makes that state

@@ -2,7 +2,7 @@
 ghost use Rattle.std.specs.Prelude.{◌≡◌};
 ghost use Rattle.kinds.specs.Outcomes.{turned, content_after};
 ghost use Rattle.kinds.specs.Queues.{queue_operation, queue_uses, queue_class, queue_of, read_queue, entries, queue_acts, entries_after, end_move, entries_before};
-ghost use Rattle.kinds.specs.Laws.QueueDuties.{read_leaves_state, no_leaves_state, undo_leads_back, operation_in_range};
+ghost use Rattle.kinds.specs.Laws.QueueDuties.{read_leaves_state, no_leaves_state, undo_leads_back};
 ghost use Rattle.kinds.specs.Laws.QueueLaws.{read_own, read_row};
 ghost use Rattle.kinds.specs.Laws.Checks.{rows_tell};
 ghost use Rattle.std.proofs.Common.{rules};
@@ -11,7 +11,7 @@ use super::operation::{EndMove, QueueOperation};
 use super::state::Queue;
 use crate::answer::{Class, Outcome};
 use crate::kind::Kind;
-use crate::operation::Operation;
+use crate::operation::{Operation, UnknownOperation};
 use crate::short_list::ShortList;
 
 impl Kind for Queue {
@@ -43,7 +43,7 @@ impl Kind for Queue {
 
     ghost misfit_unknown = { Prim.search rules };
 
-    ghost undo_restores = { λ q o e. undo_leads_back q (queue_operation o) (operation_in_range o) e };
+    ghost undo_restores = { λ q o e. undo_leads_back q (queue_operation o) e };
 
     ghost row_reads = { λ q. read_own q };
 
@@ -52,10 +52,10 @@ impl Kind for Queue {
     ghost same_row = { λ s t e. rows_tell (λ x. x.row) read_queue read_own s t e };
 
     fn class(self, operation: Operation) -> Class {
-        match QueueOperation::read(operation) {
-            None => Class::Unknown,
-            Some(QueueOperation::Front) => Class::Read,
-            Some(QueueOperation::Put(_)) | Some(QueueOperation::Next) => Class::Write,
+        match QueueOperation::try_from(operation) {
+            Err(UnknownOperation) => Class::Unknown,
+            Ok(QueueOperation::Front) => Class::Read,
+            Ok(QueueOperation::Put(_) | QueueOperation::Next) => Class::Write,
         }
     }
 
@@ -63,18 +63,18 @@ impl Kind for Queue {
         ensures outcome { result ≡ queue_acts self operation }
         ensures after { entries result.next ≡ content_after entries_after (entries self) (queue_operation operation) }
     {
-        match QueueOperation::read(operation) {
-            None => Outcome::no(self),
-            Some(QueueOperation::Front) => self.front(),
-            Some(QueueOperation::Put(n)) => self.put(n),
-            Some(QueueOperation::Next) => self.next(),
+        match QueueOperation::try_from(operation) {
+            Err(UnknownOperation) => Outcome::no(self),
+            Ok(QueueOperation::Front) => self.front(),
+            Ok(QueueOperation::Put(n)) => self.put(n),
+            Ok(QueueOperation::Next) => self.next(),
         }
     }
 
     fn undo_record(self, operation: Operation) -> EndMove {
-        match QueueOperation::read(operation) {
-            Some(QueueOperation::Put(_)) if !self.is_full() => EndMove::BackJoined,
-            Some(QueueOperation::Next) => self.front_move(),
+        match QueueOperation::try_from(operation) {
+            Ok(QueueOperation::Put(_)) if !self.row.is_full() => EndMove::BackJoined,
+            Ok(QueueOperation::Next) => self.front_move(),
             _ => EndMove::Stayed,
         }
     }

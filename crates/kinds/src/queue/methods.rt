@@ -3,36 +3,32 @@ ghost use Rattle.std.specs.Prelude.{◌≡◌, ◌<◌, ◌≤◌, true, [], Som
 ghost use Rattle.std.specs.List.{insert, remove};
 ghost use Rattle.kinds.specs.Outcomes.{turned, left_by};
 ghost use Rattle.kinds.specs.Operations.{ranged};
-ghost use Rattle.kinds.specs.QueueRows.{blank_number};
+ghost use Rattle.kinds.specs.QueueRows.{is_queue};
 ghost use Rattle.kinds.specs.Queues.{read_queue, queue_of, entries, front_of, entries_after, end_move, entries_before};
-ghost use Rattle.kinds.specs.ShortLists.{room, all};
+ghost use Rattle.kinds.specs.ShortLists.{room};
 ghost use Rattle.kinds.specs.declared.queue.operation.EndMove.TheVariants.{BackJoined, FrontLeft};
 ghost use Rattle.kinds.specs.declared.queue.operation.QueueOperation.TheVariants.{Front, Put, Next};
 
 use super::operation::EndMove;
 use super::state::Queue;
 use crate::answer::Outcome;
+use crate::number::Number;
 use crate::operation::in_range;
-use crate::short_list::{Blank, PLACES, ShortList, pull_out, push_in};
+use crate::short_list::{Blank, ShortList};
 
 impl Blank for u32 {
-    ghost blanks = { blank_number };
+    ghost blank = { 0 };
 
-    fn is_blank(self) -> bool {
-        self == 0
+    fn blank() -> u32 {
+        0
     }
 }
 
-// Whether each number is at most the largest.
-fn all_ranged(numbers: &[u32]) -> bool
-    ensures { result ≡ all ranged numbers.now }
+// Whether a row is a queue's.
+fn is_sound(row: &ShortList<u32>) -> bool
+    ensures { result ≡ is_queue row.now }
 {
-    for number in numbers {
-        if !in_range(*number) {
-            return false;
-        }
-    }
-    true
+    row.is_packed() && row.items().iter().all(|number| in_range(*number))
 }
 
 impl Queue {
@@ -41,10 +37,7 @@ impl Queue {
         ensures { entries result ≡ [] }
     {
         Queue {
-            row: ShortList {
-                count: 0,
-                places: [0; PLACES],
-            },
+            row: ShortList::empty(),
         }
     }
 
@@ -52,49 +45,11 @@ impl Queue {
     pub(super) fn read(row: ShortList<u32>) -> Option<Queue>
         ensures { result ≡ read_queue row }
     {
-        if !row.is_packed() {
-            return None;
+        if is_sound(&row) {
+            Some(Queue { row })
+        } else {
+            None
         }
-        let places = row.places;
-        if !all_ranged(&places[0..row.count]) {
-            return None;
-        }
-        Some(Queue { row })
-    }
-
-    // An entry put in at a place.
-    fn with_entry(self, at: usize, entry: u32) -> Queue
-        requires within { at ≤ self.row.count }
-        requires few { self.row.count < room }
-        requires bound { ranged «entry» ≡ true }
-        ensures { entries result ≡ insert (entries self) at «entry» }
-    {
-        let mut places = self.row.places;
-        push_in(&mut places, at, entry);
-        let count = self.row.count + 1;
-        Queue {
-            row: ShortList { count, places },
-        }
-    }
-
-    // The entry at a place taken out.
-    fn without_entry(self, at: usize) -> Queue
-        requires { at < self.row.count }
-        ensures { entries result ≡ remove (entries self) at }
-    {
-        let mut places = self.row.places;
-        pull_out(&mut places, at, 0);
-        let count = self.row.count - 1;
-        Queue {
-            row: ShortList { count, places },
-        }
-    }
-
-    // Whether there are twelve entries.
-    pub(super) fn is_full(self) -> bool
-        ensures { result ≡ nat_le room self.row.count }
-    {
-        self.row.count >= PLACES
     }
 
     // The front entry, if there is one.
@@ -102,11 +57,7 @@ impl Queue {
         ensures value { result ≡ front_of (entries self) }
         ensures bound { OnSome result (0 < self.row.count) }
     {
-        if self.row.count == 0 {
-            return None;
-        }
-        let places = self.row.places;
-        Some(places[0])
+        self.row.items().first().copied()
     }
 
     // The front entry as an answer, if there is one.
@@ -114,23 +65,22 @@ impl Queue {
         ensures outcome { result ≡ left_by queue_of self (entries_after (entries self) Front) }
         ensures after { entries result.next ≡ (entries_after (entries self) Front).1 }
     {
-        match self.front_entry() {
-            Some(entry) => Outcome::yes(entry, self),
-            None => Outcome::no(self),
+        Outcome {
+            answer: self.front_entry(),
+            next: self,
         }
     }
 
     // One entry more at the back, unless there are twelve.
-    pub(super) fn put(self, n: u32) -> Outcome<Queue>
-        requires { ranged n ≡ true }
+    pub(super) fn put(self, n: Number) -> Outcome<Queue>
         ensures outcome { result ≡ left_by queue_of self (entries_after (entries self) (Put n)) }
         ensures after { entries result.next ≡ (entries_after (entries self) (Put n)).1 }
     {
-        if self.is_full() {
+        if self.row.is_full() {
             return Outcome::no(self);
         }
-        let count = self.row.count;
-        Outcome::yes(count as u32 + 1, self.with_entry(count, n))
+        let row = self.row.with_item(self.row.count, n.value);
+        Outcome::yes(row.count as u32, Queue { row })
     }
 
     // The front entry taken out, if there is one.
@@ -138,40 +88,40 @@ impl Queue {
         ensures outcome { result ≡ left_by queue_of self (entries_after (entries self) Next) }
         ensures after { entries result.next ≡ (entries_after (entries self) Next).1 }
     {
-        match self.front_entry() {
-            Some(entry) => Outcome::yes(entry, self.without_entry(0)),
-            None => Outcome::no(self),
-        }
+        let Some(entry) = self.front_entry() else {
+            return Outcome::no(self);
+        };
+        let row = self.row.without_item(0);
+        Outcome::yes(entry, Queue { row })
     }
 
     // What NEXT is about to move.
     pub(super) fn front_move(self) -> EndMove
         ensures { result ≡ end_move (entries self) (Some Next) }
     {
-        match self.front_entry() {
-            Some(entry) => EndMove::FrontLeft(entry),
-            None => EndMove::Stayed,
-        }
+        let front = self.front_entry();
+        front.map_or(EndMove::Stayed, |entry| EndMove::FrontLeft(entry))
     }
 
     // The queue before an entry joined the back.
     pub(super) fn without_back(self) -> Queue
         ensures { result ≡ turned queue_of self (entries_before (entries self) BackJoined) }
     {
-        let count = self.row.count;
-        if count == 0 {
+        let Some(last) = self.row.count.checked_sub(1) else {
             return self;
-        }
-        self.without_entry(count - 1)
+        };
+        let row = self.row.without_item(last);
+        Queue { row }
     }
 
     // The queue before an entry left the front; as it is where no such queue exists.
     pub(super) fn with_front(self, n: u32) -> Queue
         ensures { result ≡ turned queue_of self (entries_before (entries self) (FrontLeft n)) }
     {
-        if self.is_full() || !in_range(n) {
+        if self.row.is_full() || !in_range(n) {
             return self;
         }
-        self.with_entry(0, n)
+        let row = self.row.with_item(0, n);
+        Queue { row }
     }
 }

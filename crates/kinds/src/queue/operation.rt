@@ -1,8 +1,10 @@
 // The operations that a queue knows, and what undoes one.
 ghost use Rattle.std.specs.Prelude.{◌≡◌};
-ghost use Rattle.kinds.specs.Queues.{queue_operation, QueueBound};
+ghost use Rattle.kinds.specs.Queues.{queue_operation};
+ghost use Rattle.std.specs.Result.{result_ok};
 
-use crate::operation::Operation;
+use crate::number::Number;
+use crate::operation::{Operation, UnknownOperation};
 
 pub const FRONT: u32 = 12;
 
@@ -14,7 +16,7 @@ pub const NEXT: u32 = 14;
 #[derive(Clone, Copy)]
 pub enum QueueOperation {
     Front,
-    Put(u32),
+    Put(Number),
     Next,
 }
 
@@ -26,17 +28,18 @@ pub enum EndMove {
     FrontLeft(u32),
 }
 
-impl QueueOperation {
+impl TryFrom<Operation> for QueueOperation {
+    type Error = UnknownOperation;
+
+    ghost try_from_gives = { λ o r. result_ok r ≡ queue_operation o };
+
     // The operation that a code and its numbers stand for, if a queue knows it.
-    pub(super) fn read(operation: Operation) -> Option<QueueOperation>
-        ensures value { result ≡ queue_operation operation }
-        ensures bound { QueueBound result }
-    {
+    fn try_from(operation: Operation) -> Result<QueueOperation, UnknownOperation> {
         match operation.code {
-            FRONT if operation.fits(0) => Some(QueueOperation::Front),
-            PUT if operation.fits(1) => Some(QueueOperation::Put(operation.first)),
-            NEXT if operation.fits(0) => Some(QueueOperation::Next),
-            _ => None,
+            FRONT if operation.fits(0) => Ok(QueueOperation::Front),
+            PUT if operation.fits(1) => Ok(QueueOperation::Put(operation.first.try_into()?)),
+            NEXT if operation.fits(0) => Ok(QueueOperation::Next),
+            _ => Err(UnknownOperation),
         }
     }
 }

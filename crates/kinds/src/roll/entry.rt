@@ -1,7 +1,7 @@
 // What a roll holds.
 
 // A key with its number.
-#[derive(Clone, Copy)]
+#[derive(Clone, Copy, PartialEq, Eq, Debug)]
 pub struct Entry {
     pub key: u32,
     pub number: u32,

@@ -2,7 +2,7 @@
 ghost use Rattle.std.specs.Prelude.{◌≡◌};
 ghost use Rattle.kinds.specs.Outcomes.{turned, content_after};
 ghost use Rattle.kinds.specs.Rolls.{roll_operation, roll_uses, roll_class, roll_of, read_roll, marks, roll_acts, marks_after, former, marks_before};
-ghost use Rattle.kinds.specs.Laws.RollDuties.{read_leaves_state, no_leaves_state, undo_leads_back, operation_in_range};
+ghost use Rattle.kinds.specs.Laws.RollDuties.{read_leaves_state, no_leaves_state, undo_leads_back};
 ghost use Rattle.kinds.specs.Laws.RollLaws.{read_own, read_row};
 ghost use Rattle.kinds.specs.Laws.Checks.{rows_tell};
 ghost use Rattle.std.proofs.Common.{rules};
@@ -12,7 +12,7 @@ use super::operation::RollOperation;
 use super::state::Roll;
 use crate::answer::{Class, Outcome};
 use crate::kind::Kind;
-use crate::operation::Operation;
+use crate::operation::{Operation, UnknownOperation};
 use crate::short_list::ShortList;
 
 impl Kind for Roll {
@@ -44,7 +44,7 @@ impl Kind for Roll {
 
     ghost misfit_unknown = { Prim.search rules };
 
-    ghost undo_restores = { λ r o e. undo_leads_back r (roll_operation o) (operation_in_range o) e };
+    ghost undo_restores = { λ r o e. undo_leads_back r (roll_operation o) e };
 
     ghost row_reads = { λ r. read_own r };
 
@@ -53,10 +53,10 @@ impl Kind for Roll {
     ghost same_row = { λ s t e. rows_tell (λ x. x.row) read_roll read_own s t e };
 
     fn class(self, operation: Operation) -> Class {
-        match RollOperation::read(operation) {
-            None => Class::Unknown,
-            Some(RollOperation::Find(_)) => Class::Read,
-            Some(RollOperation::Mark(_, _)) => Class::Write,
+        match RollOperation::try_from(operation) {
+            Err(UnknownOperation) => Class::Unknown,
+            Ok(RollOperation::Find(_)) => Class::Read,
+            Ok(RollOperation::Mark(_, _)) => Class::Write,
         }
     }
 
@@ -64,17 +64,17 @@ impl Kind for Roll {
         ensures outcome { result ≡ roll_acts self operation }
         ensures after { marks result.next ≡ content_after marks_after (marks self) (roll_operation operation) }
     {
-        match RollOperation::read(operation) {
-            None => Outcome::no(self),
-            Some(RollOperation::Find(key)) => self.find(key),
-            Some(RollOperation::Mark(key, number)) => self.mark(key, number),
+        match RollOperation::try_from(operation) {
+            Err(UnknownOperation) => Outcome::no(self),
+            Ok(RollOperation::Find(key)) => self.find(key),
+            Ok(RollOperation::Mark(key, number)) => self.mark(key, number),
         }
     }
 
     fn undo_record(self, operation: Operation) -> Former {
-        let key = match RollOperation::read(operation) {
-            None => 0,
-            Some(RollOperation::Find(key)) | Some(RollOperation::Mark(key, _)) => key,
+        let key = match RollOperation::try_from(operation) {
+            Err(UnknownOperation) => 0,
+            Ok(RollOperation::Find(key) | RollOperation::Mark(key, _)) => key.into(),
         };
         let number = self.number_of(key);
         Former { key, number }

@@ -1,6 +1,5 @@
 // What is done to a roll.
 ghost use Rattle.std.specs.Prelude.{◌≡◌, ℕ, ◌<◌, ◌≤◌, true, MatchResult, nat_le, slice_index_or};
-ghost use Rattle.kinds.specs.Operations.{ranged};
 ghost use Rattle.kinds.specs.Outcomes.{turned, left_by};
 ghost use Rattle.kinds.specs.RollPlaces.{place_of};
 ghost use Rattle.kinds.specs.Rolls.{roll_of, entry, marks, found, marked, without, marks_after, numbers_after};
@@ -11,8 +10,7 @@ use super::entry::Entry;
 use super::rows::place;
 use super::state::Roll;
 use crate::answer::Outcome;
-use crate::operation::in_range;
-use crate::short_list::PLACES;
+use crate::number::Number;
 
 impl Roll {
     // The place at which a key stands, or else at which it would.
@@ -39,13 +37,6 @@ impl Roll {
         places[at].number
     }
 
-    // Whether there are twelve keys.
-    fn is_full(self) -> bool
-        ensures { result ≡ nat_le room self.row.count }
-    {
-        self.row.count >= PLACES
-    }
-
     // The number of a key, if it is present.
     pub(super) fn number_of(self, key: u32) -> Option<u32>
         ensures { result ≡ found key (marks self) }
@@ -57,32 +48,37 @@ impl Roll {
     }
 
     // The number of a key as an answer, if it is present.
-    pub(super) fn find(self, key: u32) -> Outcome<Roll>
+    pub(super) fn find(self, key: Number) -> Outcome<Roll>
         ensures outcome { result ≡ left_by roll_of self (marks_after (marks self) (Find key)) }
         ensures after { marks result.next ≡ (marks_after (marks self) (Find key)).1 }
     {
-        match self.number_of(key) {
-            Some(number) => Outcome::yes(number, self),
-            None => Outcome::no(self),
+        Outcome {
+            answer: self.number_of(key.value),
+            next: self,
         }
     }
 
     // The number of a key set, and the key put in if it was absent, unless there are twelve.
-    pub(super) fn mark(self, key: u32, number: u32) -> Outcome<Roll>
-        requires key_bound { ranged key ≡ true }
-        requires number_bound { ranged number ≡ true }
+    pub(super) fn mark(self, key: Number, number: Number) -> Outcome<Roll>
         ensures outcome { result ≡ left_by roll_of self (marks_after (marks self) (Mark key number)) }
         ensures after { marks result.next ≡ (marks_after (marks self) (Mark key number)).1 }
-        ensures finds { (j : ℕ) → found j (marks result.next) ≡ numbers_after result.answer key number (marks self) j }
+        ensures finds { (j : ℕ) → found j (marks result.next) ≡ numbers_after result.answer key.value number.value (marks self) j }
     {
-        let entry = Entry { key, number };
-        match self.search(key) {
-            Ok(at) => Outcome::yes(self.number_at(at), self.with_other(at, entry)),
+        let entry = Entry {
+            key: key.value,
+            number: number.value,
+        };
+        match self.search(entry.key) {
+            Ok(at) => {
+                let row = self.row.with_other(at, entry);
+                Outcome::yes(self.number_at(at), Roll { row })
+            }
             Err(at) => {
-                if self.is_full() {
+                if self.row.is_full() {
                     return Outcome::no(self);
                 }
-                Outcome::yes(0, self.with_entry(at, entry))
+                let row = self.row.with_item(at, entry);
+                Outcome::yes(0, Roll { row })
             }
         }
     }
@@ -91,9 +87,12 @@ impl Roll {
     pub(super) fn with_mark(self, key: u32, number: u32) -> Roll
         ensures { result ≡ turned roll_of self (marked key number (marks self)) }
     {
-        if !in_range(key) || !in_range(number) {
+        let Ok(key) = Number::try_from(key) else {
             return self;
-        }
+        };
+        let Ok(number) = Number::try_from(number) else {
+            return self;
+        };
         self.mark(key, number).next
     }
 
@@ -101,9 +100,10 @@ impl Roll {
     pub(super) fn without_mark(self, key: u32) -> Roll
         ensures { result ≡ turned roll_of self (without key (marks self)) }
     {
-        match self.search(key) {
-            Ok(at) => self.without_entry(at),
-            Err(_) => self,
-        }
+        let Ok(at) = self.search(key) else {
+            return self;
+        };
+        let row = self.row.without_item(at);
+        Roll { row }
     }
 }

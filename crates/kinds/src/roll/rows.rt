@@ -1,21 +1,21 @@
 // The rows of rolls: which are a roll's, and one entry put in, replaced or taken out.
 ghost use Rattle.std.specs.Prelude.{◌≡◌, ◌<◌, ◌≤◌, true, [], slice_set};
 ghost use Rattle.std.specs.List.{insert, remove};
-ghost use Rattle.kinds.specs.RollRows.{blank_entry, suits, rising};
+ghost use Rattle.kinds.specs.RollRows.{suits, rising, is_roll};
 ghost use Rattle.kinds.specs.RollPlaces.{smaller};
-ghost use Rattle.kinds.specs.Rolls.{read_roll, marks};
+ghost use Rattle.kinds.specs.Rolls.{read_roll, marks, entry};
 ghost use Rattle.kinds.specs.ShortLists.{room};
 
 use super::entry::Entry;
 use super::state::Roll;
 use crate::operation::in_range;
-use crate::short_list::{Blank, PLACES, ShortList, pull_out, push_in};
+use crate::short_list::{Blank, ShortList};
 
 impl Blank for Entry {
-    ghost blanks = { blank_entry };
+    ghost blank = { entry 0 0 };
 
-    fn is_blank(self) -> bool {
-        self.key == 0 && self.number == 0
+    fn blank() -> Entry {
+        Entry { key: 0, number: 0 }
     }
 }
 
@@ -54,17 +54,20 @@ pub(super) fn place(entries: &[Entry], key: u32) -> usize
     entries.len()
 }
 
+// Whether a row is a roll's.
+fn is_sound(row: &ShortList<Entry>) -> bool
+    ensures { result ≡ is_roll row.now }
+{
+    row.is_packed() && rises(row.items())
+}
+
 impl Roll {
     // The roll without keys.
     pub fn new() -> Roll
         ensures { marks result ≡ [] }
     {
-        let blank = Entry { key: 0, number: 0 };
         Roll {
-            row: ShortList {
-                count: 0,
-                places: [blank; PLACES],
-            },
+            row: ShortList::empty(),
         }
     }
 
@@ -72,56 +75,10 @@ impl Roll {
     pub(super) fn read(row: ShortList<Entry>) -> Option<Roll>
         ensures { result ≡ read_roll row }
     {
-        if !row.is_packed() {
-            return None;
-        }
-        let places = row.places;
-        if !rises(&places[0..row.count]) {
-            return None;
-        }
-        Some(Roll { row })
-    }
-
-    // An entry put in at a place.
-    pub(super) fn with_entry(self, at: usize, entry: Entry) -> Roll
-        requires within { at ≤ self.row.count }
-        requires few { self.row.count < room }
-        requires rises { rising 0 (insert (marks self) at «entry») ≡ true }
-        ensures { marks result ≡ insert (marks self) at «entry» }
-    {
-        let mut places = self.row.places;
-        push_in(&mut places, at, entry);
-        let count = self.row.count + 1;
-        Roll {
-            row: ShortList { count, places },
-        }
-    }
-
-    // Another entry at a place.
-    pub(super) fn with_other(self, at: usize, entry: Entry) -> Roll
-        requires within { at < self.row.count }
-        requires rises { rising 0 (slice_set (marks self) at «entry») ≡ true }
-        ensures { marks result ≡ slice_set (marks self) at «entry» }
-    {
-        let mut places = self.row.places;
-        places[at] = entry;
-        let count = self.row.count;
-        Roll {
-            row: ShortList { count, places },
-        }
-    }
-
-    // The entry at a place taken out.
-    pub(super) fn without_entry(self, at: usize) -> Roll
-        requires within { at < self.row.count }
-        requires rises { rising 0 (remove (marks self) at) ≡ true }
-        ensures { marks result ≡ remove (marks self) at }
-    {
-        let mut places = self.row.places;
-        pull_out(&mut places, at, Entry { key: 0, number: 0 });
-        let count = self.row.count - 1;
-        Roll {
-            row: ShortList { count, places },
+        if is_sound(&row) {
+            Some(Roll { row })
+        } else {
+            None
         }
     }
 }

@@ -1,22 +1,22 @@
-// What is done to the places of a short list.
-ghost use Rattle.std.specs.Prelude.{◌≡◌, ◌+◌, ◌-◌, ◌<◌, Bool, [], ◌∷◌, ◌++◌, length, take, drop};
-ghost use Rattle.kinds.specs.ShortLists.{all, packs};
+// What is done to a short list.
+ghost use Rattle.std.specs.Prelude.{◌≡◌, ◌+◌, ◌-◌, ◌<◌, ◌≤◌, [], ◌∷◌, ◌++◌, length, take, drop, nat_le, slice_set};
+ghost use Rattle.kinds.specs.ShortLists.{room, items, packed, packs, pushed, pulled};
 
 use super::{PLACES, ShortList};
 
-// An item of which one value stands for an empty place.
-pub(crate) trait Blank: Copy {
-    // whether an item is the blank
-    ghost blanks: { Self → Bool };
+// An item of which one value, the blank, fills the empty places.
+pub trait Blank: Copy + Eq {
+    // the value of an empty place
+    ghost blank: { Self };
 
-    fn is_blank(self) -> bool
-        ensures { result ≡ blanks self };
+    fn blank() -> Self
+        ensures { result ≡ blank };
 }
 
 // Puts an item at a place; those from there on move up by one, and the last is lost.
-pub(crate) fn push_in<T: Copy>(places: &mut [T], at: usize, item: T)
+fn push_in<T: Copy>(places: &mut [T], at: usize, item: T)
     requires { at < length places.old }
-    ensures { places.new ≡ take at places.old ++ item ∷ take (length places.old - 1 - at) (drop at places.old) }
+    ensures { places.new ≡ pushed at item places.old }
 {
     let rest = &mut places[at..];
     rest.rotate_right(1);
@@ -24,43 +24,89 @@ pub(crate) fn push_in<T: Copy>(places: &mut [T], at: usize, item: T)
 }
 
 // Takes the item at a place out; those after it move down by one, and the last place gets the blank.
-pub(crate) fn pull_out<T: Copy>(places: &mut [T], at: usize, blank: T)
+fn pull_out<T: Blank>(places: &mut [T], at: usize)
     requires { at < length places.old }
-    ensures { places.new ≡ take at places.old ++ (drop (at + 1) places.old ++ blank ∷ []) }
+    ensures { places.new ≡ pulled at T.blank places.old }
 {
     let rest = &mut places[at..];
-    rest[0] = blank;
+    rest[0] = T::blank();
     rest.rotate_left(1);
 }
 
-// Whether each item is blank.
-fn all_blank<T: Blank>(places: &[T]) -> bool
-    ensures { result ≡ all T.blanks places.now }
-{
-    for place in places {
-        if !place.is_blank() {
-            return false;
+impl<T: Blank> ShortList<T> {
+    // The list without items.
+    pub(crate) fn empty() -> ShortList<T>
+        ensures { result ≡ packed T.blank [] }
+    {
+        ShortList {
+            count: 0,
+            places: [T::blank(); PLACES],
         }
     }
-    true
-}
 
-// Whether a count is at most twelve, and the places past it are blank.
-fn blank_past<T: Blank>(places: &[T; PLACES], count: usize) -> bool
-    ensures { result ≡ packs T.blanks (record { count = count; places = places.now }) }
-{
-    if count > PLACES {
-        return false;
-    }
-    let places = &places[..];
-    all_blank(&places[count..])
-}
-
-impl<T: Blank> ShortList<T> {
     // Whether this is a list: at most twelve items, and blanks past them.
     pub(crate) fn is_packed(&self) -> bool
-        ensures { result ≡ packs T.blanks self.now }
+        ensures { result ≡ packs (λ x. T.eq x T.blank) self.now }
     {
-        blank_past(&self.places, self.count)
+        let Some(past) = self.places.get(self.count..) else {
+            return false;
+        };
+        past.iter().all(|place| *place == T::blank())
+    }
+
+    // The items of a list.
+    pub(crate) fn items(&self) -> &[T]
+        requires { self.now.count ≤ room }
+        ensures { result.now ≡ items self.now }
+    {
+        &self.places[..self.count]
+    }
+
+    // Whether there are twelve items.
+    pub(crate) fn is_full(&self) -> bool
+        ensures { result ≡ nat_le room self.now.count }
+    {
+        self.count >= PLACES
+    }
+
+    // An item put in at a place.
+    pub(crate) fn with_item(self, at: usize, item: T) -> ShortList<T>
+        requires within { at ≤ self.count }
+        requires few { self.count < room }
+        ensures count { result.count ≡ self.count + 1 }
+        ensures places { result.places ≡ pushed at item self.places }
+    {
+        let ShortList { count, mut places } = self;
+        push_in(&mut places, at, item);
+        ShortList {
+            count: count + 1,
+            places,
+        }
+    }
+
+    // Another item at a place.
+    pub(crate) fn with_other(self, at: usize, item: T) -> ShortList<T>
+        requires { at < length self.places }
+        ensures count { result.count ≡ self.count }
+        ensures places { result.places ≡ slice_set self.places at item }
+    {
+        let ShortList { count, mut places } = self;
+        places[at] = item;
+        ShortList { count, places }
+    }
+
+    // The item at a place taken out.
+    pub(crate) fn without_item(self, at: usize) -> ShortList<T>
+        requires within { at < self.count }
+        requires few { self.count ≤ room }
+        ensures count { result.count ≡ self.count - 1 }
+        ensures places { result.places ≡ pulled at T.blank self.places }
+    {
+        let ShortList { count, mut places } = self;
+        pull_out(&mut places, at);
+        ShortList {
+            count: count - 1,
+            places,
+        }
     }
 }

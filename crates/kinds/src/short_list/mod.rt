@@ -1,7 +1,7 @@
 // Lists of up to twelve items as plain data: how queues and rolls lie in a row.
 mod methods;
 
-pub(crate) use methods::{Blank, pull_out, push_in};
+pub(crate) use methods::Blank;
 
 // How many items there can be.
 pub const PLACES: usize = 12;

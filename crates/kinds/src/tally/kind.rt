@@ -1,5 +1,5 @@
 // A tally as a kind of object.
-ghost use Rattle.kinds.specs.Tallies.{tally_operation, tally_uses, tally_class, tally_at, tally_acts, value_after, amount, value_undone};
+ghost use Rattle.kinds.specs.Tallies.{tally_operation, tally_uses, tally_class, tally_at, tally_acts, value_of, value_after, amount, value_undone};
 ghost use Rattle.std.specs.Prelude.{◌≡◌};
 ghost use Rattle.kinds.specs.Outcomes.{turned, content_after};
 ghost use Rattle.kinds.specs.Laws.TallyLaws.{read_leaves_state, no_leaves_state, undo_leads_back, tally_at_own, tally_at_value};
@@ -10,7 +10,7 @@ use super::operation::TallyOperation;
 use super::state::Tally;
 use crate::answer::{Class, Outcome};
 use crate::kind::Kind;
-use crate::operation::Operation;
+use crate::operation::{Operation, UnknownOperation};
 
 impl Kind for Tally {
     // By how much the write changed the value.
@@ -24,11 +24,11 @@ impl Kind for Tally {
 
     ghost uses = { tally_uses };
 
-    ghost records = { λ t o. amount t.value (tally_operation o) };
+    ghost records = { λ t o. amount (value_of t) (tally_operation o) };
 
-    ghost undone = { λ t d. turned tally_at t (value_undone t.value d) };
+    ghost undone = { λ t d. turned tally_at t (value_undone (value_of t) d) };
 
-    ghost rowed = { λ t. t.value };
+    ghost rowed = { value_of };
 
     ghost reads = { tally_at };
 
@@ -48,32 +48,32 @@ impl Kind for Tally {
 
     ghost reads_row = { λ t v m. tally_at_value t v m };
 
-    ghost same_row = { λ s t e. rows_tell (λ x. x.value) tally_at tally_at_own s t e };
+    ghost same_row = { λ s t e. rows_tell value_of tally_at tally_at_own s t e };
 
     fn class(self, operation: Operation) -> Class {
-        match TallyOperation::read(operation) {
-            None => Class::Unknown,
-            Some(TallyOperation::Show) => Class::Read,
-            Some(TallyOperation::Add(_)) | Some(TallyOperation::Take(_)) => Class::Write,
+        match TallyOperation::try_from(operation) {
+            Err(UnknownOperation) => Class::Unknown,
+            Ok(TallyOperation::Show) => Class::Read,
+            Ok(TallyOperation::Add(_) | TallyOperation::Take(_)) => Class::Write,
         }
     }
 
     fn act(self, operation: Operation) -> Outcome<Tally>
         ensures outcome { result ≡ tally_acts self operation }
-        ensures after { result.next.value ≡ content_after value_after self.value (tally_operation operation) }
+        ensures after { value_of result.next ≡ content_after value_after (value_of self) (tally_operation operation) }
     {
-        match TallyOperation::read(operation) {
-            None => Outcome::no(self),
-            Some(TallyOperation::Show) => self.show(),
-            Some(TallyOperation::Add(n)) => self.add(n),
-            Some(TallyOperation::Take(n)) => self.take(n),
+        match TallyOperation::try_from(operation) {
+            Err(UnknownOperation) => Outcome::no(self),
+            Ok(TallyOperation::Show) => self.show(),
+            Ok(TallyOperation::Add(n)) => self.add(n.into()),
+            Ok(TallyOperation::Take(n)) => self.take(n.into()),
         }
     }
 
     fn undo_record(self, operation: Operation) -> i32 {
-        match TallyOperation::read(operation) {
-            Some(TallyOperation::Add(n)) if self.has_room(n) => n as i32,
-            Some(TallyOperation::Take(n)) if self.covers(n) => -(n as i32),
+        match TallyOperation::try_from(operation) {
+            Ok(TallyOperation::Add(n)) if self.has_room(n.value) => n.value as i32,
+            Ok(TallyOperation::Take(n)) if self.covers(n.value) => -(n.value as i32),
             _ => 0,
         }
     }
@@ -88,10 +88,10 @@ impl Kind for Tally {
     }
 
     fn row(self) -> u32 {
-        self.value
+        self.number.value
     }
 
     fn from_row(row: u32) -> Option<Tally> {
-        Tally::read(row)
+        Tally::new(row)
     }
 }

@@ -2,74 +2,68 @@
 ghost use Rattle.std.specs.Prelude.{◌≡◌, ◌+◌, nat_le};
 ghost use Rattle.kinds.specs.Operations.{largest};
 ghost use Rattle.kinds.specs.Outcomes.{left_by};
-ghost use Rattle.kinds.specs.Tallies.{tally_at, value_after};
-ghost use Rattle.kinds.specs.declared.tally.operation.TallyOperation.TheVariants.{Show, Add, Take};
+ghost use Rattle.kinds.specs.Tallies.{tally_at, value_of, value_after, grown, lessened};
+ghost use Rattle.kinds.specs.declared.tally.operation.TallyOperation.TheVariants.{Show};
 
 use super::state::Tally;
 use crate::answer::Outcome;
-use crate::operation::{LARGEST, in_range};
+use crate::number::Number;
+use crate::operation::LARGEST;
 
 impl Tally {
     // The tally of a value, if it is in range.
     pub fn new(value: u32) -> Option<Tally>
         ensures { result ≡ tally_at value }
     {
-        Tally::read(value)
-    }
-
-    // The tally of a row, if the row is a tally's.
-    pub(super) fn read(value: u32) -> Option<Tally>
-        ensures { result ≡ tally_at value }
-    {
-        if !in_range(value) {
-            return None;
-        }
-        Some(Tally { value })
+        let number = Number::try_from(value).ok()?;
+        Some(Tally { number })
     }
 
     // Whether the value can grow by n.
     pub(super) fn has_room(self, n: u32) -> bool
-        ensures { result ≡ nat_le (self.value + n) largest }
+        ensures { result ≡ nat_le (value_of self + n) largest }
     {
-        n <= LARGEST - self.value
+        n <= LARGEST - self.number.value
     }
 
     // Whether the value can fall by n.
     pub(super) fn covers(self, n: u32) -> bool
-        ensures { result ≡ nat_le n self.value }
+        ensures { result ≡ nat_le n (value_of self) }
     {
-        n <= self.value
+        n <= self.number.value
     }
 
     // The value as an answer.
     pub(super) fn show(self) -> Outcome<Tally>
-        ensures outcome { result ≡ left_by tally_at self (value_after self.value Show) }
-        ensures after { result.next.value ≡ (value_after self.value Show).1 }
+        ensures outcome { result ≡ left_by tally_at self (value_after (value_of self) Show) }
+        ensures after { value_of result.next ≡ (value_after (value_of self) Show).1 }
     {
-        Outcome::yes(self.value, self)
+        Outcome::yes(self.number.value, self)
     }
 
     // The value grown by n, unless that is above the largest number.
     pub(super) fn add(self, n: u32) -> Outcome<Tally>
-        ensures outcome { result ≡ left_by tally_at self (value_after self.value (Add n)) }
-        ensures after { result.next.value ≡ (value_after self.value (Add n)).1 }
+        ensures outcome { result ≡ left_by tally_at self (grown (value_of self) n) }
+        ensures after { value_of result.next ≡ (grown (value_of self) n).1 }
     {
         if !self.has_room(n) {
             return Outcome::no(self);
         }
-        let value = self.value + n;
-        Outcome::yes(value, Tally { value })
+        let value = self.number.value + n;
+        let number = Number { value };
+        Outcome::yes(value, Tally { number })
     }
 
     // The value less n, unless n is more.
     pub(super) fn take(self, n: u32) -> Outcome<Tally>
-        ensures outcome { result ≡ left_by tally_at self (value_after self.value (Take n)) }
-        ensures after { result.next.value ≡ (value_after self.value (Take n)).1 }
+        ensures outcome { result ≡ left_by tally_at self (lessened (value_of self) n) }
+        ensures after { value_of result.next ≡ (lessened (value_of self) n).1 }
     {
         if !self.covers(n) {
             return Outcome::no(self);
         }
-        let value = self.value - n;
-        Outcome::yes(value, Tally { value })
+        let value = self.number.value - n;
+        let number = Number { value };
+        Outcome::yes(value, Tally { number })
     }
 }

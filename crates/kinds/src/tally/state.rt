@@ -1,10 +1,8 @@
 // The state of a tally.
-ghost use Rattle.std.specs.Prelude.{◌≡◌, true};
-ghost use Rattle.kinds.specs.Operations.{ranged};
+use crate::number::Number;
 
-// A number from 0 to the largest.
+// A number that is shown, added to and taken from.
 #[derive(Clone, Copy)]
 pub struct Tally {
-    pub(super) value: u32,
-    ghost sound: { ranged value ≡ true },
+    pub(super) number: Number,
 }

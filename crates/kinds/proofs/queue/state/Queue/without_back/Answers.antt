@@ -1,9 +1,16 @@
 use Rattle.std.proofs.Common.{arith}
-use Rattle.kinds.specs.Laws.QueueLaws.{no_entries, back_none, back_some}
+use Rattle.kinds.specs.Laws.QueueLaws.{entry_out, no_entries, back_none, back_some}
 use Rattle.kinds.proofs.queue.state.Queue.without_back.Goals as goal
 
-pub returns-then-count-eq0 : goal.returns-then-count-eq0
-returns-then-count-eq0 c = back_none c.args.self (no_entries c.args.self c.if-count-eq0.true)
+pub returns-in_default : goal.returns-in_default
+returns-in_default c = back_none c.args.self (no_entries c.args.self (omega (arith, c.in_default.ensures)))
+
+pub invariant_of-result : goal.invariant_of-result
+invariant_of-result c =
+    let row = c.without_item-row in
+    record { sound = (entry_out c.args.self row.result c.in-Some.last (omega (arith, c.in-Some.ensures)) row.ensures.count row.ensures.places).0 }
 
 pub returns : goal.returns
-returns c = back_some c.args.self c.without_entry.result (omega arith) c.without_entry.ensures
+returns c =
+    let row = c.without_item-row in
+    back_some c.args.self _ c.in-Some.last (omega (arith, c.in-Some.ensures)) (entry_out c.args.self row.result c.in-Some.last (omega (arith, c.in-Some.ensures)) row.ensures.count row.ensures.places).1

@@ -1,14 +1,16 @@
-use Rattle.std.proofs.Common.{ℕ, sym, ap, ◌∙◌, arith}
+use Rattle.std.proofs.Common.{sym, ◌∙◌, arith}
 use Rattle.std.proofs.lemmas.Bool.{leb-false}
-use Rattle.kinds.specs.Outcomes.{yes_to}
 use Rattle.kinds.specs.Rolls.{entry}
 use Rattle.kinds.specs.Laws.RollDuties.{after_mark}
+use Rattle.kinds.specs.Laws.RollLaws.{entry_in, entry_set}
 use Rattle.kinds.proofs.RollSteps.{set_there, set_rises, mark_present, in_there, in_rises, mark_absent, mark_full, yes_finds, no_finds}
 use Rattle.kinds.proofs.roll.state.Roll.mark.Goals as goal
 
-pub with_other-requires : goal.with_other-requires
-with_other-requires c =
-    record { within = c.in-Ok.ensures.bound; rises = set_rises c.args.self c.args.key c.args.number c.in-Ok.at c.in-Ok.ensures.value c.requires.key_bound c.requires.number_bound }
+pub invariant_of-yes : goal.invariant_of-yes
+invariant_of-yes c =
+    let row = c.with_other-row in
+    let rises = set_rises c.args.self c.args.key c.args.number c.in-Ok.at c.in-Ok.ensures.value in
+    record { sound = (entry_set c.args.self row.result c.in-Ok.at _ c.in-Ok.ensures.bound rises row.ensures.count row.ensures.places).0 }
 
 pub returns-in-Ok : goal.returns-in-Ok
 returns-in-Ok c =
@@ -17,18 +19,21 @@ returns-in-Ok c =
     let v = c.args.number in
     let at = c.in-Ok.at in
     let here = c.in-Ok.ensures.value in
-    let q = c.with_other.result in
-    let told = c.yes.ensures ∙ ap (λ (n : ℕ). yes_to n q) c.number_at.ensures in
-    let e = told ∙ sym (mark_present r k v at here q (entry 0 0) c.in-Ok.ensures.bound c.with_other.ensures) in
-    record { outcome = e; after = after_mark r k v _ c.requires.key_bound c.requires.number_bound e; finds = yes_finds r q k v _ _ told (c.with_other.ensures ∙ set_there r k v at here) }
+    let row = c.with_other-row in
+    let set = (entry_set r row.result at _ c.in-Ok.ensures.bound (set_rises r k v at here) row.ensures.count row.ensures.places).1 in
+    let e = c.yes.ensures ∙ sym (mark_present r k v at here _ c.number_at.result (entry 0 0) c.in-Ok.ensures.bound c.number_at.ensures set) in
+    record { outcome = e; after = after_mark r k v _ e; finds = yes_finds r _ k.value v.value _ _ c.yes.ensures (set ∙ set_there r k v at here) }
 
-pub with_entry-requires : goal.with_entry-requires
-with_entry-requires c =
-    record {
-      within = c.in-Err.ensures.bound;
-      few = omega (arith, leb-false _ _ (sym c.if-is_full.ensures));
-      rises = in_rises c.args.self c.args.key c.args.number c.in-Err.at c.in-Err.ensures.value c.requires.key_bound c.requires.number_bound;
-    }
+pub returns-then-is_full : goal.returns-then-is_full
+returns-then-is_full c =
+    let e = c.no.ensures ∙ sym (mark_full c.args.self c.args.key c.args.number c.in-Err.at c.in-Err.ensures.value (sym c.if-is_full.ensures)) in
+    record { outcome = e; after = after_mark c.args.self c.args.key c.args.number _ e; finds = no_finds c.args.self c.args.key.value c.args.number.value _ c.no.ensures }
+
+pub invariant_of-yes-in-Err : goal.invariant_of-yes-in-Err
+invariant_of-yes-in-Err c =
+    let row = c.with_item-row in
+    let rises = in_rises c.args.self c.args.key c.args.number c.in-Err.at c.in-Err.ensures.value in
+    record { sound = (entry_in c.args.self row.result c.in-Err.at _ c.in-Err.ensures.bound (omega (arith, leb-false _ _ (sym c.if-is_full.ensures))) rises row.ensures.count row.ensures.places).0 }
 
 pub returns-else-is_full : goal.returns-else-is_full
 returns-else-is_full c =
@@ -37,14 +42,7 @@ returns-else-is_full c =
     let v = c.args.number in
     let at = c.in-Err.at in
     let here = c.in-Err.ensures.value in
-    let q = c.with_entry.result in
-    let e = c.yes-in-Err.ensures ∙ sym (mark_absent r k v at here q (sym c.if-is_full.ensures) c.with_entry.ensures) in
-    record { outcome = e; after = after_mark r k v _ c.requires.key_bound c.requires.number_bound e; finds = yes_finds r q k v 0 _ c.yes-in-Err.ensures (c.with_entry.ensures ∙ in_there r k v at here) }
-
-pub returns-then-is_full : goal.returns-then-is_full
-returns-then-is_full c =
-    let r = c.args.self in
-    let k = c.args.key in
-    let v = c.args.number in
-    let e = c.no.ensures ∙ sym (mark_full r k v c.in-Err.at c.in-Err.ensures.value (sym c.if-is_full.ensures)) in
-    record { outcome = e; after = after_mark r k v _ c.requires.key_bound c.requires.number_bound e; finds = no_finds r k v _ c.no.ensures }
+    let row = c.with_item-row in
+    let put = (entry_in r row.result at _ c.in-Err.ensures.bound (omega (arith, leb-false _ _ (sym c.if-is_full.ensures))) (in_rises r k v at here) row.ensures.count row.ensures.places).1 in
+    let e = c.yes-in-Err.ensures ∙ sym (mark_absent r k v at here _ (sym c.if-is_full.ensures) put) in
+    record { outcome = e; after = after_mark r k v _ e; finds = yes_finds r _ k.value v.value 0 _ c.yes-in-Err.ensures (put ∙ in_there r k v at here) }

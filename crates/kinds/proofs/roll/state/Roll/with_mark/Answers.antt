@@ -1,21 +1,23 @@
-use Rattle.std.proofs.Common.{sym, ap, ◌∙◌}
-use Rattle.std.proofs.lemmas.Bool.{both_ways}
-use Rattle.kinds.specs.Operations.{ranged}
+use Rattle.std.proofs.Common.{ℕ, sym, ap, ◌∙◌}
 use Rattle.kinds.specs.declared.answer.Outcome.{Outcome}
 use Rattle.kinds.specs.declared.roll.state.Roll.{Roll}
+use Rattle.kinds.specs.Outcomes.{turned}
+use Rattle.kinds.specs.Rolls.{marks, marked, roll_of}
+use Rattle.kinds.specs.Laws.NumberLaws.{number_value, no_number}
 use Rattle.kinds.proofs.RollSteps.{mark_next, mark_above}
 use Rattle.kinds.proofs.roll.state.Roll.with_mark.Goals as goal
-use Rattle.kinds.proofs.roll.state.Roll.with_mark.Goals.{then-not-in_range-via-then-not-in_range, then-not-in_range-via-else-not-in_range+then-not-in_range-2}
-
-pub returns-then-not-in_range : goal.returns-then-not-in_range
-returns-then-not-in_range c =
-    let k = c.args.key in
-    let v = c.args.number in
-    mark_above c.args.self k v (λ rk rv.
-    elim c.then-not-in_range.branch [
-      | then-not-in_range-via-then-not-in_range w ↦ both_ways (ranged k) (sym c.in_range.ensures ∙ w.if-not-in_range.true) rk
-      | then-not-in_range-via-else-not-in_range+then-not-in_range-2 w ↦ both_ways (ranged v) (sym w.in_range-else-not-in_range.ensures ∙ w.if-not-in_range-2.true) rv
-    ])
 
 pub returns : goal.returns
-returns c = ap (λ (o : Outcome Roll). o.next) c.mark.ensures.outcome ∙ mark_next c.args.self c.args.key c.args.number
+returns c =
+    let r = c.args.self in
+    let key = c.in-Ok.key in
+    let number = c.in-Ok-try_from.number in
+    ap (λ (o : Outcome Roll). o.next) c.mark.ensures.outcome ∙ mark_next r key number
+    ∙ ap (λ (k : ℕ). turned roll_of r (marked k number.value (marks r))) (number_value key c.args.key (sym c.in-Ok.ensures))
+    ∙ ap (λ (v : ℕ). turned roll_of r (marked c.args.key v (marks r))) (number_value number c.args.number (sym c.in-Ok-try_from.ensures))
+
+pub returns-in_default : goal.returns-in_default
+returns-in_default c = mark_above c.args.self c.args.key c.args.number (λ rk rv. no_number c.args.key c.in_default.ensures rk)
+
+pub returns-in_default-try_from : goal.returns-in_default-try_from
+returns-in_default-try_from c = mark_above c.args.self c.args.key c.args.number (λ rk rv. no_number c.args.number c.in_default-try_from.ensures rv)

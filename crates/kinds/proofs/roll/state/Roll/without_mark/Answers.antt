@@ -1,12 +1,18 @@
+use Rattle.kinds.specs.Laws.RollLaws.{entry_out}
 use Rattle.kinds.proofs.RollSteps.{out_rises, out_present, out_absent}
 use Rattle.kinds.proofs.roll.state.Roll.without_mark.Goals as goal
 
-pub without_entry-requires : goal.without_entry-requires
-without_entry-requires c =
-    record { within = c.in-Ok.ensures.bound; rises = out_rises c.args.self c.args.key 0 c.in-Ok.at c.in-Ok.ensures.value }
+pub invariant_of-result : goal.invariant_of-result
+invariant_of-result c =
+    let row = c.without_item-row in
+    let rises = out_rises c.args.self c.args.key c.in-Ok.at c.in-Ok.ensures.value in
+    record { sound = (entry_out c.args.self row.result c.in-Ok.at c.in-Ok.ensures.bound rises row.ensures.count row.ensures.places).0 }
 
-pub returns-in-Ok : goal.returns-in-Ok
-returns-in-Ok c = out_present c.args.self c.args.key 0 c.in-Ok.at c.in-Ok.ensures.value c.without_entry.result c.without_entry.ensures
+pub returns : goal.returns
+returns c =
+    let row = c.without_item-row in
+    let rises = out_rises c.args.self c.args.key c.in-Ok.at c.in-Ok.ensures.value in
+    out_present c.args.self c.args.key c.in-Ok.at c.in-Ok.ensures.value _ (entry_out c.args.self row.result c.in-Ok.at c.in-Ok.ensures.bound rises row.ensures.count row.ensures.places).1
 
-pub returns-in-Err : goal.returns-in-Err
-returns-in-Err c = out_absent c.args.self c.args.key 0 c.in-Err.field-0 c.in-Err.ensures.value
+pub returns-in_default : goal.returns-in_default
+returns-in_default c = out_absent c.args.self c.args.key c.in_default.field-0 c.in_default.ensures.value

@@ -1,0 +1,26 @@
+-- Numbers by their values.
+use Rattle.std.specs.Prelude.{◌≡◌, ℕ, true, false, Some, None, Option}
+use Rattle.std.proofs.Common.{ap, sym, ◌∙◌, arith}
+use Rattle.kinds.specs.declared.number.value.Number.{Number}
+use Rattle.kinds.specs.Operations.{ranged}
+use Rattle.kinds.specs.Numbers.{number_at}
+use Rattle.kinds.specs.Laws.Checks.{checked_passes, checked_fails, checked_made}
+
+-- a number is the one made of its value
+pub number_own : (n : Number) → number_at n.value ≡ Some n
+number_own n = checked_passes ranged (λ v e. record { value = v; in_range = e }) n.value n.in_range
+
+-- the number made of a value has that value
+pub number_value : (n : Number) (v : ℕ) → number_at v ≡ Some n → n.value ≡ v
+number_value n v m =
+    ap (λ (k : Number). k.value) (sym (checked_made ranged (λ v e. record { value = v; in_range = e }) v n m).1)
+
+-- no number is made of a value above the largest
+pub above_largest : (v : ℕ) → ranged v ≡ false → number_at v ≡ None
+above_largest v e = checked_fails ranged (λ v e. record { value = v; in_range = e }) v e
+
+-- where none is made, the value is above the largest
+pub no_number : (v : ℕ) → None ≡ number_at v → ranged v ≡ true → ⊥
+no_number v e h =
+    let both : ◌≡◌ {A = Option Number} None (Some (record { value = v; in_range = h })) = e ∙ checked_passes ranged (λ v e. record { value = v; in_range = e }) v h in
+    let z : ◌≡◌ {A = ℕ} 0 1 = cc in omega arith
