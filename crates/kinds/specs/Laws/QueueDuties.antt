@@ -11,7 +11,7 @@ use Rattle.kinds.specs.declared.queue.state.Queue.{Queue}
 use Rattle.kinds.specs.declared.queue.operation.QueueOperation.{QueueOperation}
 use Rattle.kinds.specs.declared.queue.operation.QueueOperation.TheVariants.{Front, Put, Next}
 use Rattle.kinds.specs.Operations.{ranged}
-use Rattle.kinds.specs.Outcomes.{turned, left_by, by_table}
+use Rattle.kinds.specs.Outcomes.{turned, content_after, by_table}
 use Rattle.kinds.specs.Queues.{entries, entries_after, entries_before, end_move, queue_class, queue_of}
 use Rattle.std.specs.List.{list_all}
 use Rattle.kinds.specs.ShortLists.{room}
@@ -83,7 +83,8 @@ undo_leads_back q (Some p) e =
     tables.undo_returns queue_of entries queue_own entries_before q made.0 _ (end_move (entries q) (Some p)) made.1 (entries_restored (entries q) p)
 
 -- the entries after an operation are the table's
-pub after_entries : (q : Queue) (p : QueueOperation) (r : Outcome Queue) → r ≡ left_by queue_of q (entries_after (entries q) p) → entries r.next ≡ (entries_after (entries q) p).1
-after_entries q p r e =
+pub entries_left : (q : Queue) (p : Option QueueOperation) (r : Outcome Queue) → r ≡ by_table queue_of (entries_after (entries q)) q p → entries r.next ≡ content_after entries_after (entries q) p
+entries_left q None r e = ap (λ (x : Outcome Queue). entries x.next) e
+entries_left q (Some p) r e =
     let made = after_made q p in
     ap (λ (x : Outcome Queue). entries x.next) e ∙ tables.left_content queue_of entries queue_own q made.0 (entries_after (entries q) p) made.1

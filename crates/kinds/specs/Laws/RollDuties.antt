@@ -12,7 +12,7 @@ use Rattle.kinds.specs.declared.roll.operation.RollOperation.{RollOperation}
 use Rattle.kinds.specs.declared.roll.operation.RollOperation.TheVariants.{Find, Mark}
 use Rattle.kinds.specs.declared.roll.state.Roll.{Roll}
 use Rattle.kinds.specs.Operations.{ranged}
-use Rattle.kinds.specs.Outcomes.{turned, left_by, by_table}
+use Rattle.kinds.specs.Outcomes.{turned, content_after, by_table}
 use Rattle.kinds.specs.RollRows.{rising}
 use Rattle.kinds.specs.RollPlaces.{smaller}
 use Rattle.kinds.specs.Rolls.{entry, marks, found, find_after, mark_after, marks_after, marks_before, put_back, former, roll_class, roll_of}
@@ -79,13 +79,11 @@ undo_leads_back r (Some (Mark k v)) e =
     let made = mark_made r k v in
     tables.undo_returns roll_of marks roll_own marks_before r made.0 _ (former es (Some (Mark k v))) made.1 (mark_restored k.value v.value es (found k.value es) refl (roll_held r).2)
 
--- FIND leaves the entries
-pub after_find : (r : Roll) (k : Number) (x : Outcome Roll) → x ≡ left_by roll_of r (marks_after (marks r) (Find k)) → marks x.next ≡ (marks_after (marks r) (Find k)).1
-after_find r k x e =
+-- the entries after an operation are the table's
+pub marks_left : (r : Roll) (p : Option RollOperation) (x : Outcome Roll) → x ≡ by_table roll_of (marks_after (marks r)) r p → marks x.next ≡ content_after marks_after (marks r) p
+marks_left r None x e = ap (λ (y : Outcome Roll). marks y.next) e
+marks_left r (Some (Find k)) x e =
     ap (λ (y : Outcome Roll). marks y.next) e ∙ tables.left_content roll_of marks roll_own r r (marks_after (marks r) (Find k)) (sym (find_keeps (found k.value (marks r)) (marks r)))
-
--- the entries after a MARK are the table's
-pub after_mark : (r : Roll) (k v : Number) (x : Outcome Roll) → x ≡ left_by roll_of r (marks_after (marks r) (Mark k v)) → marks x.next ≡ (marks_after (marks r) (Mark k v)).1
-after_mark r k v x e =
+marks_left r (Some (Mark k v)) x e =
     let made = mark_made r k v in
     ap (λ (y : Outcome Roll). marks y.next) e ∙ tables.left_content roll_of marks roll_own r made.0 (marks_after (marks r) (Mark k v)) made.1

@@ -3,7 +3,7 @@ use Rattle.std.specs.Prelude.{◌≡◌, ℕ, Bool, true, false, cond, Some, Non
 use Rattle.std.specs.Option.{option_map}
 use Rattle.std.proofs.Common.{ap, sym, ◌∙◌, arith}
 use Rattle.std.proofs.lemmas.Bool.Decides.{nat_tests}
-use Rattle.kinds.specs.Outcomes.{Answer, turned, yes_to, no_to, left_by, by_table}
+use Rattle.kinds.specs.Outcomes.{Answer, turned, yes_to, no_to, left_by, content_after, by_table}
 use Rattle.kinds.specs.declared.answer.Class.TheVariants.{Read, Write}
 use Rattle.kinds.specs.declared.answer.Outcome.{Outcome}
 use Rattle.kinds.specs.declared.number.value.Number.{Number}
@@ -87,7 +87,9 @@ refused t b n v e = rw e (left_own t t None (value_of t) refl)
 pub accepted : (t u : Tally) (b : Bool) (v : ℕ) → b ≡ true → value_of u ≡ v → left_by tally_at t (cond b (Some v, v) (None, value_of t)) ≡ yes_to v u
 accepted t u b v e f = rw e (left_own t u (Some v) v f)
 
--- the value after an answer in range is the answer's
-pub after_value : (t : Tally) (q : Answer × ℕ) (r : Outcome Tally) → ranged q.1 ≡ true → r ≡ left_by tally_at t q → value_of r.next ≡ q.1
-after_value t q r h e =
-    ap (λ (x : Outcome Tally). value_of x.next) e ∙ tables.left_content tally_at value_of tally_at_own t (of_value q.1 h) q refl
+-- the value after an operation is the table's
+pub value_left : (t : Tally) (p : Option TallyOperation) (r : Outcome Tally) → r ≡ by_table tally_at (value_after (value_of t)) t p → value_of r.next ≡ content_after value_after (value_of t) p
+value_left t None r e = ap (λ (x : Outcome Tally). value_of x.next) e
+value_left t (Some p) r e =
+    let v = value_of t in
+    ap (λ (x : Outcome Tally). value_of x.next) e ∙ tables.left_content tally_at value_of tally_at_own t (of_value (value_after v p).1 (after_ranged v p t.number.in_range)) (value_after v p) refl

@@ -59,6 +59,7 @@ impl Kind for Queue {
         }
     }
 
+    #[tactic(auto, using(crate::specs::Laws::QueueDuties::entries_left))]
     fn act(self, operation: Operation) -> Outcome<Queue>
         ensures outcome { result ≡ queue_acts self operation }
         ensures after { entries result.next ≡ content_after entries_after (entries self) (queue_operation operation) }

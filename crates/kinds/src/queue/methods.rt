@@ -62,8 +62,7 @@ impl Queue {
 
     // The front entry as an answer, if there is one.
     pub(super) fn front(self) -> Outcome<Queue>
-        ensures outcome { result ≡ left_by queue_of self (entries_after (entries self) Front) }
-        ensures after { entries result.next ≡ (entries_after (entries self) Front).1 }
+        ensures { result ≡ left_by queue_of self (entries_after (entries self) Front) }
     {
         Outcome {
             answer: self.front_entry(),
@@ -73,8 +72,7 @@ impl Queue {
 
     // One entry more at the back, unless there are twelve.
     pub(super) fn put(self, n: Number) -> Outcome<Queue>
-        ensures outcome { result ≡ left_by queue_of self (entries_after (entries self) (Put n)) }
-        ensures after { entries result.next ≡ (entries_after (entries self) (Put n)).1 }
+        ensures { result ≡ left_by queue_of self (entries_after (entries self) (Put n)) }
     {
         if self.row.is_full() {
             return Outcome::no(self);
@@ -85,8 +83,7 @@ impl Queue {
 
     // The front entry taken out, if there is one.
     pub(super) fn next(self) -> Outcome<Queue>
-        ensures outcome { result ≡ left_by queue_of self (entries_after (entries self) Next) }
-        ensures after { entries result.next ≡ (entries_after (entries self) Next).1 }
+        ensures { result ≡ left_by queue_of self (entries_after (entries self) Next) }
     {
         let Some(entry) = self.front_entry() else {
             return Outcome::no(self);

@@ -60,6 +60,7 @@ impl Kind for Roll {
         }
     }
 
+    #[tactic(auto, using(crate::specs::Laws::RollDuties::marks_left))]
     fn act(self, operation: Operation) -> Outcome<Roll>
         ensures outcome { result ≡ roll_acts self operation }
         ensures after { marks result.next ≡ content_after marks_after (marks self) (roll_operation operation) }

@@ -49,8 +49,7 @@ impl Roll {
 
     // The number of a key as an answer, if it is present.
     pub(super) fn find(self, key: Number) -> Outcome<Roll>
-        ensures outcome { result ≡ left_by roll_of self (marks_after (marks self) (Find key)) }
-        ensures after { marks result.next ≡ (marks_after (marks self) (Find key)).1 }
+        ensures { result ≡ left_by roll_of self (marks_after (marks self) (Find key)) }
     {
         Outcome {
             answer: self.number_of(key.value),
@@ -61,7 +60,6 @@ impl Roll {
     // The number of a key set, and the key put in if it was absent, unless there are twelve.
     pub(super) fn mark(self, key: Number, number: Number) -> Outcome<Roll>
         ensures outcome { result ≡ left_by roll_of self (marks_after (marks self) (Mark key number)) }
-        ensures after { marks result.next ≡ (marks_after (marks self) (Mark key number)).1 }
         ensures finds { (j : ℕ) → found j (marks result.next) ≡ numbers_after result.answer key.value number.value (marks self) j }
     {
         let entry = Entry {

@@ -58,6 +58,7 @@ impl Kind for Tally {
         }
     }
 
+    #[tactic(auto, using(crate::specs::Laws::TallyLaws::value_left))]
     fn act(self, operation: Operation) -> Outcome<Tally>
         ensures outcome { result ≡ tally_acts self operation }
         ensures after { value_of result.next ≡ content_after value_after (value_of self) (tally_operation operation) }

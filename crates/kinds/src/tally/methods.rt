@@ -35,16 +35,14 @@ impl Tally {
 
     // The value as an answer.
     pub(super) fn show(self) -> Outcome<Tally>
-        ensures outcome { result ≡ left_by tally_at self (value_after (value_of self) Show) }
-        ensures after { value_of result.next ≡ (value_after (value_of self) Show).1 }
+        ensures { result ≡ left_by tally_at self (value_after (value_of self) Show) }
     {
         Outcome::yes(self.number.value, self)
     }
 
     // The value grown by n, unless that is above the largest number.
     pub(super) fn add(self, n: u32) -> Outcome<Tally>
-        ensures outcome { result ≡ left_by tally_at self (grown (value_of self) n) }
-        ensures after { value_of result.next ≡ (grown (value_of self) n).1 }
+        ensures { result ≡ left_by tally_at self (grown (value_of self) n) }
     {
         if !self.has_room(n) {
             return Outcome::no(self);
@@ -56,8 +54,7 @@ impl Tally {
 
     // The value less n, unless n is more.
     pub(super) fn take(self, n: u32) -> Outcome<Tally>
-        ensures outcome { result ≡ left_by tally_at self (lessened (value_of self) n) }
-        ensures after { value_of result.next ≡ (lessened (value_of self) n).1 }
+        ensures { result ≡ left_by tally_at self (lessened (value_of self) n) }
     {
         if !self.covers(n) {
             return Outcome::no(self);

@@ -2,5 +2,5 @@ use Rattle.std.proofs.Common.{sym}
 use Rattle.kinds.proofs.RollSteps.{find_answers}
 use Rattle.kinds.proofs.roll.state.Roll.find.Goals as goal
 
-pub returns-clause-outcome : goal.returns-clause-outcome
-returns-clause-outcome c = sym (find_answers c.args.self c.args.key c.number_of.result c.number_of.ensures)
+pub returns : goal.returns
+returns c = sym (find_answers c.args.self c.args.key c.number_of.result c.number_of.ensures)

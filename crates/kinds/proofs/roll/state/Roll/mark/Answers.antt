@@ -1,7 +1,6 @@
 use Rattle.std.proofs.Common.{sym, ◌∙◌, arith}
 use Rattle.std.proofs.lemmas.Bool.{leb-false}
 use Rattle.kinds.specs.Rolls.{entry}
-use Rattle.kinds.specs.Laws.RollDuties.{after_mark}
 use Rattle.kinds.specs.Laws.RollLaws.{entry_in, entry_set}
 use Rattle.kinds.proofs.RollSteps.{set_there, set_rises, mark_present, in_there, in_rises, mark_absent, mark_full, yes_finds, no_finds}
 use Rattle.kinds.proofs.roll.state.Roll.mark.Goals as goal
@@ -22,12 +21,12 @@ returns-in-Ok c =
     let row = c.with_other-row in
     let set = (entry_set r row.result at _ c.in-Ok.ensures.bound (set_rises r k v at here) row.ensures.count row.ensures.places).1 in
     let e = c.yes.ensures ∙ sym (mark_present r k v at here _ c.number_at.result (entry 0 0) c.in-Ok.ensures.bound c.number_at.ensures set) in
-    record { outcome = e; after = after_mark r k v _ e; finds = yes_finds r _ k.value v.value _ _ c.yes.ensures (set ∙ set_there r k v at here) }
+    record { outcome = e; finds = yes_finds r _ k.value v.value _ _ c.yes.ensures (set ∙ set_there r k v at here) }
 
 pub returns-then-is_full : goal.returns-then-is_full
 returns-then-is_full c =
     let e = c.no.ensures ∙ sym (mark_full c.args.self c.args.key c.args.number c.in-Err.at c.in-Err.ensures.value (sym c.if-is_full.ensures)) in
-    record { outcome = e; after = after_mark c.args.self c.args.key c.args.number _ e; finds = no_finds c.args.self c.args.key.value c.args.number.value _ c.no.ensures }
+    record { outcome = e; finds = no_finds c.args.self c.args.key.value c.args.number.value _ c.no.ensures }
 
 pub invariant_of-yes-in-Err : goal.invariant_of-yes-in-Err
 invariant_of-yes-in-Err c =
@@ -45,4 +44,4 @@ returns-else-is_full c =
     let row = c.with_item-row in
     let put = (entry_in r row.result at _ c.in-Err.ensures.bound (omega (arith, leb-false _ _ (sym c.if-is_full.ensures))) (in_rises r k v at here) row.ensures.count row.ensures.places).1 in
     let e = c.yes-in-Err.ensures ∙ sym (mark_absent r k v at here _ (sym c.if-is_full.ensures) put) in
-    record { outcome = e; after = after_mark r k v _ e; finds = yes_finds r _ k.value v.value 0 _ c.yes-in-Err.ensures (put ∙ in_there r k v at here) }
+    record { outcome = e; finds = yes_finds r _ k.value v.value 0 _ c.yes-in-Err.ensures (put ∙ in_there r k v at here) }
