@@ -8,7 +8,6 @@ ghost use Rattle.kinds.specs.ShortLists.{room};
 ghost use Rattle.kinds.specs.declared.roll.operation.RollOperation.TheVariants.{Find, Mark};
 
 use super::entry::Entry;
-use super::rows::place;
 use super::state::Roll;
 use crate::answer::Outcome;
 use crate::operation::in_range;
@@ -20,23 +19,7 @@ impl Roll {
         ensures value { result ≡ place_of key (marks self) }
         ensures bound { MatchResult result (λ at. at < self.row.count) (λ at. at ≤ self.row.count) }
     {
-        let count = self.row.count;
-        let places = self.row.places;
-        let at = place(&places[0..count], key);
-        if at < count && places[at].key == key {
-            Ok(at)
-        } else {
-            Err(at)
-        }
-    }
-
-    // The number at a place.
-    fn number_at(self, at: usize) -> u32
-        requires { at < self.row.count }
-        ensures { result ≡ (slice_index_or self.row.places at (entry 0 0)).number }
-    {
-        let places = self.row.places;
-        places[at].number
+        self.row.places[..self.row.count].binary_search_by_key(&key, |entry| entry.key)
     }
 
     // Whether there are twelve keys.
@@ -47,13 +30,12 @@ impl Roll {
     }
 
     // The number of a key, if it is present.
+    #[tactic(auto, using(crate::proofs::RollSteps::number_at))]
     pub(super) fn number_of(self, key: u32) -> Option<u32>
         ensures { result ≡ found key (marks self) }
     {
-        match self.search(key) {
-            Ok(at) => Some(self.number_at(at)),
-            Err(_) => None,
-        }
+        let at = self.search(key).ok()?;
+        Some(self.row.places[at].number)
     }
 
     // The number of a key as an answer, if it is present.
@@ -77,7 +59,7 @@ impl Roll {
     {
         let entry = Entry { key, number };
         match self.search(key) {
-            Ok(at) => Outcome::yes(self.number_at(at), self.with_other(at, entry)),
+            Ok(at) => Outcome::yes(self.row.places[at].number, self.with_other(at, entry)),
             Err(at) => {
                 if self.is_full() {
                     return Outcome::no(self);

@@ -2,7 +2,6 @@
 ghost use Rattle.std.specs.Prelude.{◌≡◌, ◌<◌, ◌≤◌, true, [], slice_set};
 ghost use Rattle.std.specs.List.{insert, remove};
 ghost use Rattle.kinds.specs.RollRows.{blank_entry, suits, rising};
-ghost use Rattle.kinds.specs.RollPlaces.{smaller};
 ghost use Rattle.kinds.specs.Rolls.{read_roll, marks};
 ghost use Rattle.kinds.specs.ShortLists.{room};
 
@@ -40,18 +39,6 @@ fn rises(entries: &[Entry]) -> bool
         low = entry.key + 1;
     }
     true
-}
-
-// How many keys stand before the place of a key.
-pub(super) fn place(entries: &[Entry], key: u32) -> usize
-    ensures { result ≡ smaller key entries.now }
-{
-    for (at, entry) in entries.iter().enumerate() {
-        if entry.key >= key {
-            return at;
-        }
-    }
-    entries.len()
 }
 
 impl Roll {

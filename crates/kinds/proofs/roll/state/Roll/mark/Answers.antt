@@ -1,6 +1,5 @@
-use Rattle.std.proofs.Common.{ℕ, sym, ap, ◌∙◌, arith}
+use Rattle.std.proofs.Common.{sym, ◌∙◌, arith}
 use Rattle.std.proofs.lemmas.Bool.{leb-false}
-use Rattle.kinds.specs.Outcomes.{yes_to}
 use Rattle.kinds.specs.Rolls.{entry}
 use Rattle.kinds.specs.Laws.RollDuties.{after_mark}
 use Rattle.kinds.proofs.RollSteps.{set_there, set_rises, mark_present, in_there, in_rises, mark_absent, mark_full, yes_finds, no_finds}
@@ -18,9 +17,8 @@ returns-in-Ok c =
     let at = c.in-Ok.at in
     let here = c.in-Ok.ensures.value in
     let q = c.with_other.result in
-    let told = c.yes.ensures ∙ ap (λ (n : ℕ). yes_to n q) c.number_at.ensures in
-    let e = told ∙ sym (mark_present r k v at here q (entry 0 0) c.in-Ok.ensures.bound c.with_other.ensures) in
-    record { outcome = e; after = after_mark r k v _ c.requires.key_bound c.requires.number_bound e; finds = yes_finds r q k v _ _ told (c.with_other.ensures ∙ set_there r k v at here) }
+    let e = c.yes.ensures ∙ sym (mark_present r k v at here q (entry 0 0) c.in-Ok.ensures.bound c.with_other.ensures) in
+    record { outcome = e; after = after_mark r k v _ c.requires.key_bound c.requires.number_bound e; finds = yes_finds r q k v _ _ c.yes.ensures (c.with_other.ensures ∙ set_there r k v at here) }
 
 pub with_entry-requires : goal.with_entry-requires
 with_entry-requires c =
