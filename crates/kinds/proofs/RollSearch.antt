@@ -13,7 +13,7 @@ use Rattle.kinds.specs.Rolls.{entry}
 use Rattle.kinds.specs.Laws.Rising.{rising_parts, key_found, absent_at}
 
 -- the key at a place
-abbrev key_at : List Entry → ℕ → ℕ
+abbrev pub key_at : List Entry → ℕ → ℕ
 key_at es i = (get_or es i (entry 0 0)).key
 
 -- no key is below the bound from which they rise
@@ -25,7 +25,7 @@ keys_from low (e ∷ es) (suc i) r h =
     omega (arith, parts.0, keys_from (e.key + 1) es i parts.3 (omega arith))
 
 -- each key is below those after it
-keys_rise : (low : ℕ) (es : List Entry) (i j : ℕ) → rising low es ≡ true → i < j → j < length es → key_at es i < key_at es j
+pub keys_rise : (low : ℕ) (es : List Entry) (i j : ℕ) → rising low es ≡ true → i < j → j < length es → key_at es i < key_at es j
 keys_rise low [] i j r lt h = absurd (omega arith)
 keys_rise low (e ∷ es) i zero r lt h = absurd (omega arith)
 keys_rise low (e ∷ es) zero (suc j) r lt h = omega (arith, keys_from (e.key + 1) es j (rising_parts low e es r).3 (omega arith))

@@ -1,9 +1,9 @@
 // What is done to a roll.
-ghost use Rattle.std.specs.Prelude.{◌≡◌, ℕ, ◌<◌, ◌≤◌, true, MatchResult, nat_le, slice_index_or};
+ghost use Rattle.std.specs.Prelude.{◌≡◌, ℕ, ◌<◌, ◌≤◌, true, MatchResult, nat_le};
 ghost use Rattle.kinds.specs.Operations.{ranged};
 ghost use Rattle.kinds.specs.Outcomes.{turned, left_by};
 ghost use Rattle.kinds.specs.RollPlaces.{place_of};
-ghost use Rattle.kinds.specs.Rolls.{roll_of, entry, marks, found, marked, without, marks_after, numbers_after};
+ghost use Rattle.kinds.specs.Rolls.{roll_of, marks, found, marked, without, marks_after, numbers_after};
 ghost use Rattle.kinds.specs.ShortLists.{room};
 ghost use Rattle.kinds.specs.declared.roll.operation.RollOperation.TheVariants.{Find, Mark};
 

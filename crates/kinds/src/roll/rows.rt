@@ -19,11 +19,11 @@ impl Blank for Entry {
 }
 
 impl Entry {
-    // Whether the key is at least `low`, and neither number above the largest.
-    fn suits(self, low: u32) -> bool
-        ensures { result ≡ suits low self }
+    // Whether neither number is above the largest.
+    fn is_ranged(self) -> bool
+        ensures { result ≡ suits 0 self }
     {
-        self.key >= low && in_range(self.key) && in_range(self.number)
+        in_range(self.key) && in_range(self.number)
     }
 }
 
@@ -31,14 +31,8 @@ impl Entry {
 fn rises(entries: &[Entry]) -> bool
     ensures { result ≡ rising 0 entries.now }
 {
-    let mut low = 0;
-    for entry in entries {
-        if !entry.suits(low) {
-            return false;
-        }
-        low = entry.key + 1;
-    }
-    true
+    entries.is_sorted_by(|left, right| left.key < right.key)
+        && entries.iter().all(|entry| entry.is_ranged())
 }
 
 impl Roll {

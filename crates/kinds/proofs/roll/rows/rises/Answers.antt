@@ -1,15 +1,17 @@
-use Rattle.std.proofs.Common.{sym}
-use Rattle.kinds.specs.Rolls.{entry}
-use Rattle.kinds.proofs.RollLoops.{rising_stops, rising_goes_on, rising_ends}
+use Rattle.std.proofs.Common.{arith, rules, tests}
+use Rattle.std.proofs.lemmas.Iterator.{YieldsList-from_slice}
+use Rattle.std.proofs.lemmas.Iterator.Search.{all_from_yields_List}
+use Rattle.kinds.specs.RollRows.{suits}
+use Rattle.kinds.proofs.RollRises.{rising_by}
 use Rattle.kinds.proofs.roll.rows.rises.Goals as goal
 
-pub returns-then-not-suits : goal.returns-then-not-suits
-returns-then-not-suits c =
-    rising_stops c.args.entries.now c.loop-entry.entry-index c.loop-entry.low (entry 0 0) c.loop-entry-test.true (sym c.if-not-suits.ensures) c.loop-entry.invariant
+pub returns-then-is_sorted_by : goal.returns-then-is_sorted_by
+returns-then-is_sorted_by c =
+    let by_keys = rising_by c.args.entries.now _ c.is_sorted_by.ensures.cases (λ f a b g called. search rules) in
+    let by_numbers = all_from_yields_List (suits 0) _ _ c.all.result c.all.ensures.ran (YieldsList-from_slice c.args.entries.now cc) (λ x b q k. search (rules, tests)) in
+    grind arith
 
-pub loop-entry-preserved : goal.loop-entry-preserved
-loop-entry-preserved c =
-    rising_goes_on c.args.entries.now c.loop-entry.entry-index c.loop-entry.low (entry 0 0) c.loop-entry-test.true (sym c.if-not-suits.ensures) c.loop-entry.invariant
-
-pub returns : goal.returns
-returns c = rising_ends c.args.entries.now c.loop-entry.entry-index c.loop-entry.low c.loop-entry-test.false c.loop-entry.invariant
+pub returns-else-is_sorted_by : goal.returns-else-is_sorted_by
+returns-else-is_sorted_by c =
+    let by_keys = rising_by c.args.entries.now _ c.is_sorted_by.ensures.cases (λ f a b g called. search rules) in
+    grind arith
