@@ -1,3 +1,4 @@
 pub mod Places
-pub mod RollLoops
+pub mod RollRises
+pub mod RollSearch
 pub mod RollSteps

@@ -22,19 +22,6 @@ use Rattle.kinds.specs.Laws.RollLaws.{roll_held, marks_length, left_own, turned_
 pub mark_at : (r : Roll) (at : ℕ) (d : Entry) → at < r.row.count → get_or r.row.places at d ≡ get_or (marks r) at d
 mark_at r at d h = sym (get_or-take r.row.count r.row.places at d h)
 
--- where a key is present
-pub place_present : (r : Roll) (k at : ℕ) (d : Entry) → at ≡ smaller k (marks r) → at < r.row.count → (get_or r.row.places at d).key ≡ k → Ok at ≡ place_of k (marks r)
-place_present r k at d e h f =
-    let here : (get_or (marks r) (smaller k (marks r)) d).key ≡ k = ap (λ (i : ℕ). (get_or (marks r) i d).key) (sym e) ∙ ap (λ (x : Entry). x.key) (sym (mark_at r at d h)) ∙ f in
-    let some = Rising.key_found 0 k (marks r) d (roll_held r).2 (omega (arith, marks_length r)) here in
-    ap (λ (i : ℕ). Ok i) e ∙ sym (ap (λ (o : Option ℕ). placed o (smaller k (marks r))) some)
-
--- where it is absent
-pub place_absent : (r : Roll) (k at : ℕ) (d : Entry) → at ≡ smaller k (marks r) → (at < r.row.count → (get_or r.row.places at d).key ≡ k → ⊥) → Err at ≡ place_of k (marks r)
-place_absent r k at d e a =
-    let none = Rising.absent_at 0 k (marks r) d (roll_held r).2 (λ h f. let m : at < r.row.count = omega (arith, marks_length r) in a m (ap (λ (x : Entry). x.key) (mark_at r at d m) ∙ ap (λ (i : ℕ). (get_or (marks r) i d).key) e ∙ f)) in
-    ap (λ (i : ℕ). Err i) e ∙ sym (ap (λ (o : Option ℕ). placed o (smaller k (marks r))) none)
-
 -- what a place says of its key
 ok_some : (o : Option ℕ) (at n : ℕ) → Ok at ≡ placed o n → (v : ℕ) × (o ≡ Some v) × (at ≡ n)
 ok_some None at n e = absurd (let z : ◌≡◌ {A = ℕ} 0 1 = cc in omega arith)

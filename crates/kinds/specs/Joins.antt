@@ -6,7 +6,6 @@
 -- | either_uses    | how many numbers a code uses |
 -- | either_records | the record made when an operation is about to act |
 -- | either_undone  | the state that undoing by a record leaves |
--- | either_rowed   | the row of a state |
 -- | either_reads   | the state of a row |
 use Rattle.std.specs.Prelude.{ℕ, Option}
 use Rattle.std.specs.Option.{option_map}
@@ -46,11 +45,6 @@ either_undone f g (Left l) (Left u) = Left (f l u)
 either_undone f g (Left l) (Right v) = Left l
 either_undone f g (Right r) (Left u) = Right r
 either_undone f g (Right r) (Right v) = Right (g r v)
-
--- the row of a state
-abbrev pub either_rowed : {L R U V : Type 0} → (L → U) → (R → V) → Either L R → Either U V
-either_rowed f g (Left l) = Left (f l)
-either_rowed f g (Right r) = Right (g r)
 
 -- the state of a row, if it is a state's
 abbrev pub either_reads : {L R U V : Type 0} → (U → Option L) → (V → Option R) → Either U V → Option (Either L R)

@@ -1,7 +1,8 @@
 // The join of any two kinds: each object is of one side, fixed when made, and knows only that side's operations.
-ghost use Rattle.kinds.specs.Joins.{either_class, either_acts, either_uses, either_records, either_undone, either_rowed, either_reads, lifted};
+ghost use Rattle.kinds.specs.Joins.{either_class, either_acts, either_uses, either_records, either_undone, either_reads, lifted};
 ghost use Rattle.std.proofs.Common.{ap, rules};
 ghost use Rattle.either.specs.declared.Either.TheVariants.{Left, Right};
+ghost use Rattle.either.specs.Either.{map_either};
 ghost use Rattle.kinds.specs.Laws.Sides.{left_some, right_some, left_not_right, right_not_left};
 
 use crate::answer::{Class, Outcome};
@@ -30,7 +31,7 @@ impl<L: Kind, R: Kind> Kind for Either<L, R> {
 
     ghost undone = { either_undone L.Kind.undone R.Kind.undone };
 
-    ghost rowed = { either_rowed L.Kind.rowed R.Kind.rowed };
+    ghost rowed = { map_either L.Kind.rowed R.Kind.rowed };
 
     ghost reads = { either_reads L.Kind.reads R.Kind.reads };
 
@@ -82,6 +83,7 @@ impl<L: Kind, R: Kind> Kind for Either<L, R> {
         for_both!(self, state => state.class(operation))
     }
 
+    // The sides are put back by closures: the check covers no bare constructor of a generic enum there.
     fn act(self, operation: Operation) -> Outcome<Either<L, R>> {
         match self {
             Either::Left(left) => left.act(operation).map(|next| Either::Left(next)),

@@ -55,7 +55,8 @@ pub trait Kind: Copy {
     fn undo(self, record: Self::Undo) -> Self
         ensures { result ≡ undone self «record» };
 
-    // This state as a row.
+    // This state as a row. Not by `From`, and the way back not by `TryFrom`: the laws need both as
+    // functions of the state and of the row.
     fn row(self) -> Self::Row
         ensures { result ≡ rowed self };
 

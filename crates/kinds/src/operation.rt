@@ -14,7 +14,8 @@ pub(crate) fn in_range(number: u32) -> bool
     number <= LARGEST
 }
 
-// Any code and any numbers: which of them a kind knows is for the kind to say.
+// Any code and any numbers: which of them a kind knows is for the kind to say. Plain numbers and no
+// enum, since what no kind knows can be called too, and must be told as unknown.
 #[derive(Clone, Copy)]
 pub struct Operation {
     pub code: u32,

@@ -18,7 +18,7 @@ by_order a b lt eq gt =
     (cases_order a b)
 
 -- what rising says of the first entry and the rest
-rising_parts : (low : ℕ) (e : Entry) (es : List Entry) → rising low (e ∷ es) ≡ true → (low ≤ e.key) × (ranged e.key ≡ true) × (ranged e.number ≡ true) × (rising (e.key + 1) es ≡ true)
+pub rising_parts : (low : ℕ) (e : Entry) (es : List Entry) → rising low (e ∷ es) ≡ true → (low ≤ e.key) × (ranged e.key ≡ true) × (ranged e.number ≡ true) × (rising (e.key + 1) es ≡ true)
 rising_parts low e es h =
     let both = and_parts (suits low e) (rising (e.key + 1) es) h in
     let suit = and_parts (nat_le low e.key) (ranged e.key && ranged e.number) both.0 in

@@ -93,6 +93,10 @@ impl Kind for Queue {
     }
 
     fn from_row(row: ShortList<u32>) -> Option<Queue> {
-        Queue::read(row)
+        if row.is_sound() {
+            Some(Queue { row })
+        } else {
+            None
+        }
     }
 }

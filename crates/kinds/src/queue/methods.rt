@@ -1,10 +1,9 @@
 // What is done to a queue.
 ghost use Rattle.std.specs.Prelude.{◌≡◌, ◌<◌, ◌≤◌, true, [], Some, OnSome, nat_le};
-ghost use Rattle.std.specs.List.{insert, remove};
+ghost use Rattle.std.specs.List.{list_all};
 ghost use Rattle.kinds.specs.Outcomes.{turned, left_by};
 ghost use Rattle.kinds.specs.Operations.{ranged};
-ghost use Rattle.kinds.specs.QueueRows.{is_queue};
-ghost use Rattle.kinds.specs.Queues.{read_queue, queue_of, entries, front_of, entries_after, end_move, entries_before};
+ghost use Rattle.kinds.specs.Queues.{queue_of, entries, front_of, entries_after, end_move, entries_before};
 ghost use Rattle.kinds.specs.ShortLists.{room};
 ghost use Rattle.kinds.specs.declared.queue.operation.EndMove.TheVariants.{BackJoined, FrontLeft};
 ghost use Rattle.kinds.specs.declared.queue.operation.QueueOperation.TheVariants.{Front, Put, Next};
@@ -14,21 +13,20 @@ use super::state::Queue;
 use crate::answer::Outcome;
 use crate::number::Number;
 use crate::operation::in_range;
-use crate::short_list::{Blank, ShortList};
+use crate::short_list::{Item, ShortList};
 
-impl Blank for u32 {
+impl Item for u32 {
     ghost blank = { 0 };
+
+    ghost good = { list_all ranged };
 
     fn blank() -> u32 {
         0
     }
-}
 
-// Whether a row is a queue's.
-fn is_sound(row: &ShortList<u32>) -> bool
-    ensures { result ≡ is_queue row.now }
-{
-    row.is_packed() && row.items().iter().all(|number| in_range(*number))
+    fn are_good(numbers: &[u32]) -> bool {
+        numbers.iter().all(|number| in_range(*number))
+    }
 }
 
 impl Queue {
@@ -38,17 +36,6 @@ impl Queue {
     {
         Queue {
             row: ShortList::empty(),
-        }
-    }
-
-    // The queue of a row, if the row is a queue's.
-    pub(super) fn read(row: ShortList<u32>) -> Option<Queue>
-        ensures { result ≡ read_queue row }
-    {
-        if is_sound(&row) {
-            Some(Queue { row })
-        } else {
-            None
         }
     }
 

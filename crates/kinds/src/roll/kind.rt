@@ -93,6 +93,10 @@ impl Kind for Roll {
     }
 
     fn from_row(row: ShortList<Entry>) -> Option<Roll> {
-        Roll::read(row)
+        if row.is_sound() {
+            Some(Roll { row })
+        } else {
+            None
+        }
     }
 }

@@ -1,50 +1,44 @@
 // What is done to a roll.
-ghost use Rattle.std.specs.Prelude.{◌≡◌, ℕ, ◌<◌, ◌≤◌, true, MatchResult, nat_le, slice_index_or};
+ghost use Rattle.std.specs.Prelude.{◌≡◌, ℕ, ◌<◌, ◌≤◌, [], MatchResult, nat_le};
 ghost use Rattle.kinds.specs.Outcomes.{turned, left_by};
 ghost use Rattle.kinds.specs.RollPlaces.{place_of};
-ghost use Rattle.kinds.specs.Rolls.{roll_of, entry, marks, found, marked, without, marks_after, numbers_after};
+ghost use Rattle.kinds.specs.Rolls.{roll_of, marks, found, marked, without, marks_after, numbers_after};
 ghost use Rattle.kinds.specs.ShortLists.{room};
 ghost use Rattle.kinds.specs.declared.roll.operation.RollOperation.TheVariants.{Find, Mark};
 
 use super::entry::Entry;
-use super::rows::place;
 use super::state::Roll;
 use crate::answer::Outcome;
 use crate::number::Number;
+use crate::short_list::ShortList;
 
 impl Roll {
+    // The roll without keys.
+    pub fn new() -> Roll
+        ensures { marks result ≡ [] }
+    {
+        Roll {
+            row: ShortList::empty(),
+        }
+    }
+
     // The place at which a key stands, or else at which it would.
     pub(super) fn search(self, key: u32) -> Result<usize, usize>
         ensures value { result ≡ place_of key (marks self) }
         ensures bound { MatchResult result (λ at. at < self.row.count) (λ at. at ≤ self.row.count) }
     {
-        let count = self.row.count;
-        let places = self.row.places;
-        let at = place(&places[0..count], key);
-        if at < count && places[at].key == key {
-            Ok(at)
-        } else {
-            Err(at)
-        }
-    }
-
-    // The number at a place.
-    fn number_at(self, at: usize) -> u32
-        requires { at < self.row.count }
-        ensures { result ≡ (slice_index_or self.row.places at (entry 0 0)).number }
-    {
-        let places = self.row.places;
-        places[at].number
+        self.row
+            .items()
+            .binary_search_by_key(&key, |entry| entry.key)
     }
 
     // The number of a key, if it is present.
+    #[tactic(auto, using(crate::proofs::RollSteps::number_at))]
     pub(super) fn number_of(self, key: u32) -> Option<u32>
         ensures { result ≡ found key (marks self) }
     {
-        match self.search(key) {
-            Ok(at) => Some(self.number_at(at)),
-            Err(_) => None,
-        }
+        let at = self.search(key).ok()?;
+        Some(self.row.places[at].number)
     }
 
     // The number of a key as an answer, if it is present.
@@ -69,7 +63,7 @@ impl Roll {
         match self.search(entry.key) {
             Ok(at) => {
                 let row = self.row.with_other(at, entry);
-                Outcome::yes(self.number_at(at), Roll { row })
+                Outcome::yes(self.row.places[at].number, Roll { row })
             }
             Err(at) => {
                 if self.row.is_full() {

@@ -1,9 +1,9 @@
 // A roll: up to twelve keys in rising order, each with a number.
+mod entries;
 mod entry;
 mod kind;
 mod methods;
 mod operation;
-mod rows;
 mod state;
 
 pub use entry::{Entry, Former};

@@ -1,16 +1,24 @@
 // What is done to a short list.
-ghost use Rattle.std.specs.Prelude.{◌≡◌, ◌+◌, ◌-◌, ◌<◌, ◌≤◌, [], ◌∷◌, ◌++◌, length, take, drop, nat_le, slice_set};
-ghost use Rattle.kinds.specs.ShortLists.{room, items, packed, packs, pushed, pulled};
+ghost use Rattle.std.specs.Prelude.{◌≡◌, Bool, List, ◌+◌, ◌-◌, ◌<◌, ◌≤◌, [], ◌∷◌, ◌++◌, length, take, drop, nat_le, slice_set};
+ghost use Rattle.kinds.specs.ShortLists.{room, items, packed, packs, holds, pushed, pulled};
 
 use super::{PLACES, ShortList};
 
-// An item of which one value, the blank, fills the empty places.
-pub trait Blank: Copy + Eq {
+// What stands in the places of a state's row.
+pub trait Item: Copy + Eq {
     // the value of an empty place
     ghost blank: { Self };
 
+    // the items are a state's
+    ghost good: { List Self → Bool };
+
+    // The value of an empty place.
     fn blank() -> Self
         ensures { result ≡ blank };
+
+    // Whether the items are a state's.
+    fn are_good(items: &[Self]) -> bool
+        ensures { result ≡ good items.now };
 }
 
 // Puts an item at a place; those from there on move up by one, and the last is lost.
@@ -24,7 +32,7 @@ fn push_in<T: Copy>(places: &mut [T], at: usize, item: T)
 }
 
 // Takes the item at a place out; those after it move down by one, and the last place gets the blank.
-fn pull_out<T: Blank>(places: &mut [T], at: usize)
+fn pull_out<T: Item>(places: &mut [T], at: usize)
     requires { at < length places.old }
     ensures { places.new ≡ pulled at T.blank places.old }
 {
@@ -33,7 +41,7 @@ fn pull_out<T: Blank>(places: &mut [T], at: usize)
     rest.rotate_left(1);
 }
 
-impl<T: Blank> ShortList<T> {
+impl<T: Item> ShortList<T> {
     // The list without items.
     pub(crate) fn empty() -> ShortList<T>
         ensures { result ≡ packed T.blank [] }
@@ -45,7 +53,7 @@ impl<T: Blank> ShortList<T> {
     }
 
     // Whether this is a list: at most twelve items, and blanks past them.
-    pub(crate) fn is_packed(&self) -> bool
+    fn is_packed(&self) -> bool
         ensures { result ≡ packs (λ x. T.eq x T.blank) self.now }
     {
         let Some(past) = self.places.get(self.count..) else {
@@ -60,6 +68,13 @@ impl<T: Blank> ShortList<T> {
         ensures { result.now ≡ items self.now }
     {
         &self.places[..self.count]
+    }
+
+    // Whether this is a state's row.
+    pub(crate) fn is_sound(&self) -> bool
+        ensures { result ≡ holds (λ x. T.eq x T.blank) T.good self.now }
+    {
+        self.is_packed() && T::are_good(self.items())
     }
 
     // Whether there are twelve items.

@@ -8,7 +8,7 @@ use Rattle.kinds.proofs.short_list.ShortList.is_packed.Goals as goal
 
 pub returns : goal.returns
 returns g c =
-    let test = λ (x : g.row.T.Denot). g.T.PartialEq.eq x g.T.Blank.blank in
+    let test = λ (x : g.row.T.Denot). g.T.PartialEq.eq x g.T.Item.blank in
     let l = c.args.self.now in
     let n : length l.places ≡ 12 = omega arith in
     let past = c.in-Some.ensures.lookup in

@@ -1,4 +1,4 @@
-use Rattle.std.proofs.Common.{sym, ◌∙◌, arith}
+use Rattle.std.proofs.Common.{refl, sym, ◌∙◌, arith}
 use Rattle.std.proofs.lemmas.Bool.{leb-false}
 use Rattle.kinds.specs.Rolls.{entry}
 use Rattle.kinds.specs.Laws.RollLaws.{entry_in, entry_set}
@@ -20,7 +20,7 @@ returns-in-Ok c =
     let here = c.in-Ok.ensures.value in
     let row = c.with_other-row in
     let set = (entry_set r row.result at _ c.in-Ok.ensures.bound (set_rises r k v at here) row.ensures.count row.ensures.places).1 in
-    let e = c.yes.ensures ∙ sym (mark_present r k v at here _ c.number_at.result (entry 0 0) c.in-Ok.ensures.bound c.number_at.ensures set) in
+    let e = c.yes.ensures ∙ sym (mark_present r k v at here _ _ (entry 0 0) c.in-Ok.ensures.bound refl set) in
     record { outcome = e; finds = yes_finds r _ k.value v.value _ _ c.yes.ensures (set ∙ set_there r k v at here) }
 
 pub returns-then-is_full : goal.returns-then-is_full

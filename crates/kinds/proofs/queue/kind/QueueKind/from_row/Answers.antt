@@ -1,6 +1,6 @@
 use Rattle.std.proofs.Common.{sym}
 use Rattle.kinds.specs.Laws.QueueLaws.{read_own, unread}
-use Rattle.kinds.proofs.queue.state.Queue.read.Goals as goal
+use Rattle.kinds.proofs.queue.kind.QueueKind.from_row.Goals as goal
 
 pub returns-then-is_sound : goal.returns-then-is_sound
 returns-then-is_sound c = sym (read_own _)
