@@ -82,9 +82,10 @@ impl Kind for Roll {
     }
 
     fn undo(self, record: Former) -> Roll {
+        let key = record.key;
         match record.number {
-            None => self.without_mark(record.key),
-            Some(number) => self.with_mark(record.key, number),
+            None => self.without_mark(key),
+            Some(number) => self.with_mark(Entry { key, number }),
         }
     }
 

@@ -75,14 +75,14 @@ impl Roll {
         }
     }
 
-    // The roll with a key's former number; as it is where no such roll exists.
-    pub(super) fn with_mark(self, key: u32, number: u32) -> Roll
-        ensures { result ≡ turned roll_of self (marked key number (marks self)) }
+    // The roll with a former entry; as it is where no such roll exists.
+    pub(super) fn with_mark(self, entry: Entry) -> Roll
+        ensures { result ≡ turned roll_of self (marked «entry».key «entry».number (marks self)) }
     {
-        let Ok(key) = Number::try_from(key) else {
+        let Ok(key) = Number::try_from(entry.key) else {
             return self;
         };
-        let Ok(number) = Number::try_from(number) else {
+        let Ok(number) = Number::try_from(entry.number) else {
             return self;
         };
         self.mark(key, number).next
