@@ -1,16 +1,14 @@
 // What a call is told, and what a question is.
-use crate::fault::EngineFault;
 use kinds::answer::Answer;
 
-// What a call is told. `NoVictim` is told where nobody is deadlocked.
+// What a call is told that is not refused; a refusal is an `EngineFault`.
 #[derive(Clone, Copy)]
 pub enum Reply {
     Accepted,
     Answered(Answer),
     Waits,
-    Victim(u32),
-    NoVictim,
-    Refused(EngineFault),
+    // The transaction aborted to break a deadlock; none where nobody is deadlocked.
+    Victim(Option<u32>),
 }
 
 // What a transaction number is in use for.
