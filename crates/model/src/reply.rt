@@ -2,7 +2,7 @@
 use kinds::answer::Answer;
 
 // What a call is told that is not refused; a refusal is an `EngineFault`.
-#[derive(Clone, Copy)]
+#[derive(Clone, Copy, PartialEq, Eq, Debug)]
 pub enum Reply {
     Accepted,
     Answered(Answer),
@@ -12,7 +12,7 @@ pub enum Reply {
 }
 
 // What a transaction number is in use for.
-#[derive(Clone, Copy)]
+#[derive(Clone, Copy, PartialEq, Eq, Debug)]
 pub enum Condition {
     Free,
     Waiting,
@@ -20,7 +20,7 @@ pub enum Condition {
 }
 
 // How many transactions hold each lock of an object. One with both counts in both.
-#[derive(Clone, Copy)]
+#[derive(Clone, Copy, PartialEq, Eq, Debug)]
 pub struct LockCounts {
     pub readers: u32,
     pub writers: u32,
