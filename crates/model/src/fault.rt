@@ -67,7 +67,7 @@ impl EngineFault {
     }
 
     // The word of the layer that refused.
-    // No enum with `Display`: nobody acts by it, and the scripts' layer above adds a word of its own.
+    // No enum with `Display`: nobody acts by it, and scripts add a layer with a word of its own.
     pub fn layer(self) -> &'static str
         ensures { result.now ≡ layer_word self }
     {
