@@ -27,7 +27,7 @@ use Rattle.model.proofs.Run.Invariant.{Sound, WaitsWith}
 
 -- nobody waits for what is not there
 none_some : {A X : Type 0} (a : A) → None ≡ Some a → X
-none_some a e = absurd (let z : ◌≡◌ {A = ℕ} 0 1 = cc in omega arith)
+none_some a e = absurd cc
 
 -- where nothing is open, everything holds
 vacant_tree : (limit : ℕ) → Tree limit vacant

@@ -1,5 +1,5 @@
 -- Every call keeps what holds after every list of calls, and the account goes with the state.
-use Rattle.std.proofs.Common.{◌≡◌, ℕ, Bool, true, false, cond, ◌||◌, eqb, List, [], ◌∷◌, Some, None, Ok, Err, Option, sym, refl, ap, ◌∙◌, subst, arith}
+use Rattle.std.proofs.Common.{◌≡◌, ℕ, Bool, true, false, cond, ◌||◌, eqb, List, [], ◌∷◌, Some, None, Ok, Err, Option, sym, refl, ap, ◌∙◌, subst}
 use Rattle.std.specs.List.{slice_get}
 use Rattle.kinds.specs.declared.answer.Class.{Class}
 use Rattle.kinds.specs.declared.answer.Class.TheVariants as classes
@@ -28,11 +28,11 @@ use Rattle.model.proofs.Run.Invariant.{Lawful, Sound}
 -- a test that was passed, where a failure is refused
 pub passed_so : (b : Bool) (x : Option EngineFault) (f : EngineFault) → cond b x (Some f) ≡ None → (b ≡ true) × (x ≡ None)
 passed_so true x f e = (refl, e)
-passed_so false x f e = absurd (let z : ◌≡◌ {A = ℕ} 0 1 = cc in omega arith)
+passed_so false x f e = absurd cc
 
 pub passed_not : (b : Bool) (x : Option EngineFault) (f : EngineFault) → cond b (Some f) x ≡ None → (b ≡ false) × (x ≡ None)
 passed_not false x f e = (refl, e)
-passed_not true x f e = absurd (let z : ◌≡◌ {A = ℕ} 0 1 = cc in omega arith)
+passed_not true x f e = absurd cc
 
 pub begin_free : (limit : ℕ) (T : Tables) (t p : ℕ) → begin_fault limit T t p ≡ None → (numbered limit t ≡ true) × (is_open T t ≡ false) × ((eqb p 0 || is_open T p) ≡ true)
 begin_free limit T t p e =

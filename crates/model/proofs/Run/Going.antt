@@ -1,5 +1,5 @@
 -- While something is open and nobody is deadlocked, some open transaction can go on.
-use Rattle.std.proofs.Common.{◌≡◌, ℕ, Bool, true, false, cond, eqb, List, Some, None, Ok, Err, Option, sym, refl, ◌∙◌, subst, inl, inr, arith}
+use Rattle.std.proofs.Common.{◌≡◌, ℕ, Bool, true, false, cond, eqb, List, Some, None, Ok, Err, Option, sym, refl, ◌∙◌, subst, inl, inr}
 use Rattle.std.specs.List.{slice_get}
 use Rattle.kinds.specs.declared.answer.Class.TheVariants as classes
 use Rattle.kinds.specs.declared.operation.Operation.{Operation}
@@ -8,11 +8,11 @@ use Rattle.model.specs.declared.fault.StoreFault.TheVariants.{Full}
 use Rattle.model.specs.declared.lock.Mode.{Mode}
 use Rattle.model.specs.declared.lock.Mode.TheVariants.{Read, Write}
 use Rattle.model.specs.declared.lock.Wait.{Wait}
-use Rattle.model.specs.declared.reply.Reply.TheVariants.{Accepted, Answered, Waits}
+use Rattle.model.specs.declared.reply.Reply.TheVariants.{Accepted, Waits}
 use Rattle.model.specs.Deadlocks.{in_conflict}
 use Rattle.model.specs.Histories.{Account, History, account, class_at, class_in, Follows, class_of}
 use Rattle.model.specs.Checks.{has_child}
-use Rattle.model.specs.Model.{Response, Setting, State, state, respond, step_at, step_by, step_written}
+use Rattle.model.specs.Model.{Setting, State, state, respond, step_at, step_by, step_written}
 use Rattle.model.specs.Numbers.{at}
 use Rattle.model.specs.Promises.{CanGoOn, Progress}
 use Rattle.model.specs.Stores.{Object, top, weight, changed}
@@ -23,13 +23,6 @@ use Rattle.model.proofs.Deadlock.Progress.{Unblocked, progress_at}
 use Rattle.model.proofs.Run.Promised.{tables_told, sound}
 use Rattle.model.proofs.Run.Steps.{top_alike}
 use Rattle.model.proofs.Run.Invariant.{Lawful, Sound}
-
--- an answer is no wait, and neither is a refusal
-answered_not_waits : (r : Response) (a : _) → r ≡ Ok (Answered a) → r ≡ Ok Waits → ⊥
-answered_not_waits r a e f = let z : ◌≡◌ {A = ℕ} 0 1 = cc in omega arith
-
-refused_not_waits : (r : Response) (a : _) → r ≡ Err a → r ≡ Ok Waits → ⊥
-refused_not_waits r a e f = let z : ◌≡◌ {A = ℕ} 0 1 = cc in omega arith
 
 module _ {S : Type 0} (m : Setting S) (lawful : Lawful m) (initial : List S) (h : History) (s : State S) (follows : Follows m initial h s) where
   abbrev A : Account
@@ -54,11 +47,11 @@ module _ {S : Type 0} (m : Setting S) (lawful : Lawful m) (initial : List S) (h 
   -- a step for a lock that nobody holds against it
   module _ (u x : ℕ) (op : Operation) (a : S) (ob : Object S) (object_sound : SoundObject m T A.items (A.changes x) x a ob) where
     updated_not_waits : (b : Bool) → (step_written r u x (cond b (Err Full, s.objects) (Ok (m.acts (top ob) op).answer, at x (changed u (m.acts (top ob) op).next) s.objects))).0 ≡ Ok Waits → ⊥
-    updated_not_waits true e = refused_not_waits _ _ refl e
-    updated_not_waits false e = answered_not_waits _ _ refl e
+    updated_not_waits true e = cc
+    updated_not_waits false e = cc
 
     free_not_waits : (mode : Mode) → slice_get s.objects x ≡ Some ob → in_conflict m.limit T u x mode ≡ false → (step_by m r u x op ob (class_of mode)).0 ≡ Ok Waits → ⊥
-    free_not_waits Read here free = rw free (λ e. answered_not_waits _ _ refl e)
+    free_not_waits Read here free = rw free (λ e. cc)
     free_not_waits Write here free = rw (free, here) (updated_not_waits (eqb (weight ob.versions) m.capacity))
 
     same_class : m.class (top ob) op ≡ m.class a op
@@ -66,8 +59,8 @@ module _ {S : Type 0} (m : Setting S) (lawful : Lawful m) (initial : List S) (h 
 
   -- a known operation is on an object
   class_none : (mode : Mode) → classes.Unknown ≡ class_of mode → ⊥
-  class_none Read e = let z : ◌≡◌ {A = ℕ} 0 1 = cc in omega arith
-  class_none Write e = let z : ◌≡◌ {A = ℕ} 0 1 = cc in omega arith
+  class_none Read e = cc
+  class_none Write e = cc
 
   step_not_waits : (u x : ℕ) (op : Operation) (mode : Mode) → in_conflict m.limit T u x mode ≡ false → (a : Option S) (b : Option (Object S)) → slice_get s.objects x ≡ b → Matched (SoundObject m T A.items (A.changes x) x) a b → class_in m.class op a ≡ class_of mode → (step_at m r u x op b).0 ≡ Ok Waits → ⊥
   step_not_waits u x op mode free None b here k c = absurd (class_none mode c)

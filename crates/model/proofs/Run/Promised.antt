@@ -1,5 +1,5 @@
 -- What histories tell, the serial run, the questions, and that every list of calls has one end.
-use Rattle.std.proofs.Common.{◌≡◌, ℕ, suc, ◌+◌, true, List, [], ◌∷◌, length, Some, None, Option, sym, refl, ap, ◌∙◌, subst, ap₂, arith}
+use Rattle.std.proofs.Common.{◌≡◌, ℕ, suc, ◌+◌, true, List, [], ◌∷◌, length, Some, None, Option, sym, refl, ap, ◌∙◌, subst, ap₂}
 use Rattle.std.specs.Option.{option_map}
 use Rattle.std.specs.List.{slice_get}
 use Rattle.model.specs.declared.call.Call.{Call}
@@ -118,8 +118,8 @@ module _ {S : Type 0} (m : Setting S) (initial : List S) where
 
   one_end : (h k : History) (s r : State S) → Follows m initial h s → Follows m initial k r → calls_of h ≡ calls_of k → (h ≡ k) × (s ≡ r)
   one_end [] [] s r f g e = (refl, f ∙ sym g)
-  one_end [] (b ∷ k) s r f g e = absurd (let z : ◌≡◌ {A = ℕ} 0 1 = cc in omega arith)
-  one_end (a ∷ h) [] s r f g e = absurd (let z : ◌≡◌ {A = ℕ} 0 1 = cc in omega arith)
+  one_end [] (b ∷ k) s r f g e = absurd cc
+  one_end (a ∷ h) [] s r f g e = absurd cc
   one_end (a ∷ h) (b ∷ k) s r f g e = joined (one_end h k f.0 g.0 f.1 g.1 rest)
     where
       first : a.call ≡ b.call
