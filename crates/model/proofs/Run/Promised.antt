@@ -2,6 +2,7 @@
 use Rattle.std.proofs.Common.{◌≡◌, ℕ, suc, ◌+◌, true, List, [], ◌∷◌, length, Some, None, Option, sym, refl, ap, ◌∙◌, subst, ap₂}
 use Rattle.std.specs.Option.{option_map}
 use Rattle.std.specs.List.{slice_get}
+use Rattle.std.proofs.lemmas.Option.{slice_get-map}
 use Rattle.model.specs.declared.call.Call.{Call}
 use Rattle.model.specs.declared.lock.Wait.{Wait}
 use Rattle.model.specs.Histories.{Account, Done, History, account, kept, Follows}
@@ -12,7 +13,7 @@ use Rattle.model.specs.Stores.{Object, owned, change_count}
 use Rattle.model.specs.Tables.{Tables, is_open}
 use Rattle.model.proofs.Run.Following.{follows_sound}
 use Rattle.model.proofs.Object.Invariant.{SoundObject}
-use Rattle.model.proofs.General.Places.{Matched, matched_there, nth_map, same_places}
+use Rattle.model.proofs.General.Places.{Matched, matched_there, same_places}
 use Rattle.model.proofs.Object.Runs.{ends}
 use Rattle.model.proofs.Run.Serials.{FitsAt, serial_answers_fit, serial_states_at}
 use Rattle.model.proofs.Run.Invariant.{Lawful, Sound, WaitsWith}
@@ -83,7 +84,7 @@ module _ {S : Type 0} (m : Setting S) (lawful : Lawful m) (initial : List S) (h 
             same_places _ _
             (λ x.
             serial_states_at m.acts steps initial x
-            ∙ (leads x (slice_get initial x) (slice_get s.objects x) (sound.each x) ∙ sym (nth_map (λ ob. ob.committed) s.objects x)));
+            ∙ (leads x (slice_get initial x) (slice_get s.objects x) (sound.each x) ∙ sym (slice_get-map (λ ob. ob.committed) s.objects x)));
       }
     where
       fits : (x : ℕ) (a : Option S) → slice_get initial x ≡ a → (b : Option (Object S)) → Matched (SoundObject m A.tables A.items (A.changes x) x) a b → FitsAt m.acts x steps a
