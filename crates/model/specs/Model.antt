@@ -17,7 +17,7 @@
 -- | victim          | the deadlocked one that goes before all others |
 -- | deadlock_broken | the victim is aborted and named |
 -- | respond         | the reply to a call, and the later state |
-use Rattle.std.specs.Prelude.{ℕ, Bool, cond, List, [], ◌∷◌, map, Some, None, Ok, Err, Option, Result}
+use Rattle.std.specs.Prelude.{ℕ, Bool, cond, List, [], ◌∷◌, map, Some, None, Ok, Err, Option, Result, filter}
 use Rattle.std.specs.List.{slice_get}
 use Rattle.kinds.specs.Outcomes.{Answer}
 use Rattle.kinds.specs.declared.answer.Class.{Class}
@@ -37,7 +37,6 @@ use Rattle.model.specs.declared.reply.Reply.{Reply}
 use Rattle.model.specs.declared.reply.Reply.TheVariants.{Accepted, Answered, Waits, Victim}
 use Rattle.model.specs.Checks.{begin_fault, absent_fault, commit_fault}
 use Rattle.model.specs.Deadlocks.{in_conflict, deadlocked, waiting}
-use Rattle.model.specs.Numbers.{those}
 use Rattle.model.specs.Policies.{foremost}
 use Rattle.model.specs.Stores.{Object, made, top, change_count, update, inherit, discard}
 use Rattle.model.specs.Tables.{Tables, vacant, opened, granted, delayed, handed, closed, closing_order}
@@ -118,7 +117,7 @@ facts s t = record { number = t; ordinal = s.tables.ordinal t; changes = change_
 -- the deadlocked one that the policy puts before all others
 abbrev pub victim : {S : Type 0} → Setting S → State S → Option ℕ
 victim m s =
-    foremost (λ t u. m.before (facts s t) (facts s u)) (those (deadlocked m.limit s.tables) (waiting m.limit s.tables))
+    foremost (λ t u. m.before (facts s t) (facts s u)) (filter (deadlocked m.limit s.tables) (waiting m.limit s.tables))
 
 -- the victim is aborted and named, if there is one
 abbrev pub deadlock_broken : {S : Type 0} → ℕ → State S → Option ℕ → Response × State S

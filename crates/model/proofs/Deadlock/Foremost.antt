@@ -1,8 +1,8 @@
 -- The foremost of some transactions, under an order on their facts, is one of them and goes before each other one.
 use Rattle.std.proofs.Common.{◌≡◌, ℕ, Bool, true, false, cond, not, eqb, ◌⊎◌, List, [], ◌∷◌, Some, None, sym, refl, ap, ◌∙◌, subst, inl, inr, arith}
+use Rattle.model.proofs.General.Finite.{has}
 use Rattle.std.proofs.lemmas.Bool.{cases_eq, cond_both, false≢true, not_from_false, or_cases, or_left, or_right, eqb-true, eq-eqb}
 use Rattle.model.specs.declared.facts.Facts.{Facts}
-use Rattle.model.specs.Numbers.{has}
 use Rattle.model.specs.Policies.{Order, leader, foremost}
 
 -- a total order on numbers, as a test

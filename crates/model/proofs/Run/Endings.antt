@@ -1,10 +1,10 @@
 -- Transactions that end one after the other end all at once.
 use Rattle.std.proofs.Common.{◌≡◌, ℕ, Bool, true, false, cond, ◌||◌, eqb, List, [], ◌∷◌, map, None, sym, refl, ap, ◌∙◌}
+use Rattle.model.proofs.General.Finite.{has}
 use mathlib.Core.List.{map-map}
 use mathlib.Core.Path.{fun_ext}
 use Rattle.std.proofs.lemmas.List.{map-id}
 use Rattle.model.specs.Model.{State, state, ended, aborted}
-use Rattle.model.specs.Numbers.{has}
 use Rattle.model.specs.Stores.{Object, object, dropped, discard}
 use Rattle.model.specs.Tables.{closing_order, Tables, closed, cut}
 use Rattle.model.proofs.Object.Cutting.{stripped}

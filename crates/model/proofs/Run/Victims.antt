@@ -1,17 +1,17 @@
 -- A deadlock break names the right one, after every list of calls.
-use Rattle.std.proofs.Common.{◌≡◌, ℕ, true, List, Some, None, Ok, Option, sym, refl, ap, ◌∙◌, subst}
+use Rattle.std.proofs.Common.{◌≡◌, ℕ, true, List, Some, None, Ok, Option, sym, refl, ap, ◌∙◌, subst, filter}
 use Rattle.std.proofs.lemmas.Bool.{and_parts, and_from, both_ways}
 use Rattle.model.specs.declared.call.Call.TheVariants.{Abort, BreakDeadlock}
 use Rattle.model.specs.declared.reply.Reply.TheVariants.{Accepted, Victim}
 use Rattle.model.specs.Deadlocks.{Deadlocked, deadlocked, waiting}
 use Rattle.model.specs.Histories.{History, account, Follows}
 use Rattle.model.specs.Model.{Response, Setting, State, respond, aborted, deadlock_broken, victim, facts}
-use Rattle.model.specs.Numbers.{those, has, numbers}
+use Rattle.model.specs.Numbers.{numbers}
 use Rattle.model.specs.Policies.{Order}
 use Rattle.model.specs.Promises.{facts_told, FreeOfDeadlock, Names, RightVictim}
 use Rattle.model.specs.Tables.{Tables, is_open, waits}
 use Rattle.model.proofs.Deadlock.Branches.{deadlocked_decides, deadlocked_waits}
-use Rattle.model.proofs.General.Finite.{has_those}
+use Rattle.model.proofs.General.Finite.{has_filter, has}
 use Rattle.model.proofs.Deadlock.Foremost.{foremost_none_has, foremost_some}
 use Rattle.model.proofs.Tree.Invariants.{Tree, Locks}
 use Rattle.model.proofs.Tree.Lines.{open_number}
@@ -20,21 +20,21 @@ use Rattle.model.proofs.Run.Invariant.{Lawful}
 
 module _ (limit : ℕ) (T : Tables) (tree : Tree limit T) (locks : Locks T) where
   abbrev pub deadlocked_ones : List ℕ
-  deadlocked_ones = those (deadlocked limit T) (waiting limit T)
+  deadlocked_ones = filter (deadlocked limit T) (waiting limit T)
 
   -- the candidates are those that are deadlocked
   pub among_deadlocked : (t : ℕ) → has t deadlocked_ones ≡ true → Deadlocked T t
   among_deadlocked t e =
-      (deadlocked_decides limit T tree locks t).0 (and_parts _ _ (sym (has_those (deadlocked limit T) (waiting limit T) t) ∙ e)).1
+      (deadlocked_decides limit T tree locks t).0 (and_parts _ _ (sym (has_filter (deadlocked limit T) (waiting limit T) t) ∙ e)).1
 
   pub deadlocked_open : (t : ℕ) → Deadlocked T t → is_open T t ≡ true
   deadlocked_open t d = locks.waiter_open t (deadlocked_waits T t d)
 
   pub deadlocked_among : (t : ℕ) → Deadlocked T t → has t deadlocked_ones ≡ true
   deadlocked_among t d =
-      has_those (deadlocked limit T) (waiting limit T) t
+      has_filter (deadlocked limit T) (waiting limit T) t
       ∙ and_from _ _
-      (has_those (waits T) (numbers limit) t ∙ and_from _ _ (open_number limit T tree t (deadlocked_open t d)) (deadlocked_waits T t d))
+      (has_filter (waits T) (numbers limit) t ∙ and_from _ _ (open_number limit T tree t (deadlocked_open t d)) (deadlocked_waits T t d))
       ((deadlocked_decides limit T tree locks t).1 d)
 
 module _ {S : Type 0} (m : Setting S) (lawful : Lawful m) (order : Order m.before) (initial : List S) (h : History) (s : State S) (follows : Follows m initial h s) where
