@@ -2,16 +2,17 @@
 --
 -- | Thing         | an object of the product |
 -- | product       | its behaviour, with 64 transactions and capacity 16 |
--- | before-others, tallies | the tallies of some values |
+-- | tallies       | the tallies of some values |
 -- | Example       | a victim policy, values of tallies, and calls with their replies |
 -- | due           | a call and the reply that is due to it |
--- | replies-from, replies | what some calls are told one after the other |
--- | show, add, unknown, yes-with | steps and answers in short |
--- | two-begin, three-begin, crossed, adds | beginnings that several examples share |
+-- | replies_from, replies | what some calls are told one after the other |
+-- | show, add, unknown, yes_with | steps and answers in short |
+-- | two_begin, three_begin, crossed, adds | beginnings that several examples share |
 -- | row           | one example before others |
 -- | examples      | the table |
 -- | ExamplesHold  | the replies are those of the table |
-use Rattle.std.specs.Prelude.{◌≡◌, ℕ, zero, suc, Bool, List, [], ◌∷◌, ◌++◌, map, Some, None, Ok, Err, Option}
+use Rattle.std.specs.Prelude.{◌≡◌, ℕ, Bool, List, [], ◌∷◌, ◌++◌, map, Some, None, Ok, Err, filter_map}
+use Rattle.std.specs.List.{range_with_len}
 use Rattle.kinds.specs.Joins.{either_class, either_acts}
 use Rattle.kinds.specs.Queues.{queue_class, queue_operation, queue_acts}
 use Rattle.kinds.specs.Rolls.{roll_class, roll_operation, roll_acts}
@@ -50,15 +51,9 @@ product before =
       limit = 64;
     }
 
--- a tally before others, if its value is one
-abbrev pub before_others : Option Tally → List Thing → List Thing
-before_others None others = others
-before_others (Some t) others = Left t ∷ others
-
 -- the tallies of some values
 abbrev pub tallies : List ℕ → List Thing
-tallies [] = []
-tallies (v ∷ vs) = before_others (tally_at v) (tallies vs)
+tallies vs = map Left (filter_map tally_at vs)
 
 -- a victim policy, the initial values of some tallies, and calls with their replies in the order of calling
 pub record Example : Type 0 where
@@ -109,8 +104,7 @@ crossed = due (add 1 0 5) (yes_with 5) ∷ due (add 2 1 7) (yes_with 7) ∷ due 
 
 -- n ADDs of 1 by transaction 1 to object 0, at first k
 abbrev pub adds : ℕ → ℕ → List Event
-adds zero k = []
-adds (suc n) k = due (add 1 0 1) (yes_with k) ∷ adds n (suc k)
+adds n k = map (λ i. due (add 1 0 1) (yes_with i)) (range_with_len k n)
 
 -- one example before others
 abbrev pub row : (Facts → Facts → Bool) → List ℕ → List Event → List Example → List Example

@@ -14,9 +14,9 @@
 -- | kept_waiting | an account after a step that was told to wait |
 -- | joined       | an account after a commit |
 -- | rolled_back  | an account after an abort |
--- | if-accepted, stepped, if-victim | an account by what a call was told |
+-- | if_accepted, stepped, if_victim | an account by what a call was told |
 -- | stepped_by   | an account after a step, by what its operation is |
--- | class-in, class-at | what an operation is to an object, by its initial state |
+-- | class_in, class_at | what an operation is to an object, by its initial state |
 -- | class_of     | the class of the operations that ask for a lock of a mode |
 -- | noted        | an account after one more event |
 -- | account      | the account of a history |
