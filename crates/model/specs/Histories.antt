@@ -22,7 +22,7 @@
 -- | account      | the account of a history |
 -- | kept         | the steps that were kept, in finishing order |
 -- | Follows      | a history leads from the initial states to a state |
-use Rattle.std.specs.Prelude.{◌≡◌, ℕ, suc, ◌+◌, List, [], ◌∷◌, ◌++◌, Some, None, Ok, Err, Option}
+use Rattle.std.specs.Prelude.{◌≡◌, ℕ, suc, ◌+◌, List, [], ◌∷◌, ◌++◌, Some, None, Ok, Option}
 use Rattle.std.specs.List.{slice_get}
 use Rattle.kinds.specs.Outcomes.{Answer}
 use Rattle.kinds.specs.declared.answer.Class.{Class}
@@ -135,18 +135,13 @@ rolled_back t A = record { tables = cut t A.tables; waiting_step = A.waiting_ste
 -- `then` if the call was accepted
 abbrev pub if_accepted : Response → Account → Account → Account
 if_accepted (Ok Accepted) A then = then
-if_accepted (Ok (Answered a)) A then = A
-if_accepted (Ok Waits) A then = A
-if_accepted (Ok (Victim v)) A then = A
-if_accepted (Err f) A then = A
+if_accepted _ A then = A
 
 -- a step of a mode, by what it was told
 abbrev pub stepped : Mode → ℕ → Asked → Response → Account → Account
-stepped mode t q (Ok Accepted) A = A
 stepped mode t q (Ok (Answered a)) A = answered mode t q a A
 stepped mode t q (Ok Waits) A = kept_waiting mode t q A
-stepped mode t q (Ok (Victim v)) A = A
-stepped mode t q (Err f) A = A
+stepped mode t q _ A = A
 
 -- a step, by what its operation is to the object
 abbrev pub stepped_by : Class → ℕ → Asked → Response → Account → Account
@@ -156,12 +151,8 @@ stepped_by classes.Write t q r A = stepped Write t q r A
 
 -- a deadlock break, by whom it named
 abbrev pub if_victim : Response → Account → Account
-if_victim (Ok Accepted) A = A
-if_victim (Ok (Answered a)) A = A
-if_victim (Ok Waits) A = A
 if_victim (Ok (Victim (Some t))) A = rolled_back t A
-if_victim (Ok (Victim None)) A = A
-if_victim (Err f) A = A
+if_victim _ A = A
 
 -- what an operation is to an object, by the object's initial state: it never changes
 abbrev pub class_in : {S : Type 0} → (S → Operation → Class) → Operation → Option S → Class
