@@ -7,9 +7,10 @@
 -- | absent_fault | why one can neither step nor abort |
 -- | commit_fault | why one cannot commit |
 use Rattle.std.specs.Prelude.{ℕ, Bool, cond, ◌&&◌, ◌||◌, Some, None, Option, ◌==◌, nat_le}
+use Rattle.std.specs.List.{list_any}
 use Rattle.model.specs.declared.fault.EngineFault.{EngineFault}
 use Rattle.model.specs.declared.fault.EngineFault.TheVariants.{NumberOutOfRange, AlreadyOpen, ParentNotOpen, TooManyBegins, NotOpen, OpenChild, Waiting}
-use Rattle.model.specs.Numbers.{any, numbers}
+use Rattle.model.specs.Numbers.{numbers}
 use Rattle.model.specs.Tables.{Tables, is_open, waits}
 
 -- how many begins are accepted at most
@@ -22,7 +23,7 @@ numbered limit t = nat_le 1 t && nat_le t limit
 
 -- t has an open child
 abbrev pub has_child : ℕ → Tables → ℕ → Bool
-has_child limit T t = any (λ u. is_open T u && T.parent u == t) (numbers limit)
+has_child limit T t = list_any (λ u. is_open T u && T.parent u == t) (numbers limit)
 
 -- why t cannot begin under p
 abbrev pub begin_fault : ℕ → Tables → ℕ → ℕ → Option EngineFault

@@ -14,11 +14,12 @@
 -- | reaches     | a chain of steps leads from one to another, as a test |
 -- | waiting     | the waiting transactions |
 -- | deadlocked  | a chain of waits comes back, as a test |
-use Rattle.std.specs.Prelude.{◌≡◌, ℕ, Bool, true, false, not, ◌&&◌, ◌||◌, List, [], ◌∷◌, Some, None, Option}
+use Rattle.std.specs.Prelude.{◌≡◌, ℕ, Bool, true, false, not, ◌&&◌, ◌||◌, List, [], ◌∷◌, Some, None, Option, filter}
+use Rattle.std.specs.List.{list_any}
 use Rattle.model.specs.declared.lock.Mode.{Mode}
 use Rattle.model.specs.declared.lock.Mode.TheVariants.{Read, Write}
 use Rattle.model.specs.declared.lock.Wait.{Wait}
-use Rattle.model.specs.Numbers.{any, those, numbers}
+use Rattle.model.specs.Numbers.{numbers}
 use Rattle.model.specs.Tables.{Tables, waits}
 
 -- a read may conflict with a write lock, a write with any
@@ -32,7 +33,7 @@ conflicts T t x mode h = against mode (T.readers x h) (T.writers x h) && not (T.
 
 -- some lock on x conflicts with a step of t
 abbrev pub in_conflict : ℕ → Tables → ℕ → ℕ → Mode → Bool
-in_conflict limit T t x mode = any (conflicts T t x mode) (numbers limit)
+in_conflict limit T t x mode = list_any (conflicts T t x mode) (numbers limit)
 
 -- h's lock conflicts with a step for what is waited for
 abbrev pub blocks_for : Tables → ℕ → Option Wait → ℕ → Bool
@@ -69,11 +70,11 @@ Deadlocked T t = Leads (WaitsFor T) t t
 
 -- the lines of u and h meet outside that of t: u is the branch of h or a descendant of it
 abbrev pub meets : ℕ → Tables → ℕ → ℕ → ℕ → Bool
-meets limit T t u h = any (λ c. (T.line u c && T.line h c) && not (T.line t c)) (numbers limit)
+meets limit T t u h = list_any (λ c. (T.line u c && T.line h c) && not (T.line t c)) (numbers limit)
 
 -- t waits for u, as a test
 abbrev pub waits_for : ℕ → Tables → ℕ → ℕ → Bool
-waits_for limit T t u = waits T u && any (meets limit T t u) (those (blocks T t) (numbers limit))
+waits_for limit T t u = waits T u && list_any (meets limit T t u) (filter (blocks T t) (numbers limit))
 
 -- a chain of steps leads from a to b, through none but ks in between
 abbrev pub reaches : (ℕ → ℕ → Bool) → List ℕ → ℕ → ℕ → Bool
@@ -82,7 +83,7 @@ reaches E (k ∷ ks) a b = reaches E ks a b || (reaches E ks a k && reaches E ks
 
 -- the waiting ones, by number
 abbrev pub waiting : ℕ → Tables → List ℕ
-waiting limit T = those (waits T) (numbers limit)
+waiting limit T = filter (waits T) (numbers limit)
 
 -- t is deadlocked, as a test
 abbrev pub deadlocked : ℕ → Tables → ℕ → Bool

@@ -2,16 +2,17 @@
 --
 -- | Thing         | an object of the product |
 -- | product       | its behaviour, with 64 transactions and capacity 16 |
--- | before-others, tallies | the tallies of some values |
+-- | tallies       | the tallies of some values |
 -- | Example       | a victim policy, values of tallies, and calls with their replies |
 -- | due           | a call and the reply that is due to it |
--- | replies-from, replies | what some calls are told one after the other |
--- | show, add, unknown, yes-with | steps and answers in short |
--- | two-begin, three-begin, crossed, adds | beginnings that several examples share |
+-- | replies_from, replies | what some calls are told one after the other |
+-- | show, add, unknown, yes_with | steps and answers in short |
+-- | two_begin, three_begin, crossed, adds | beginnings that several examples share |
 -- | row           | one example before others |
 -- | examples      | the table |
 -- | ExamplesHold  | the replies are those of the table |
-use Rattle.std.specs.Prelude.{◌≡◌, ℕ, zero, suc, Bool, List, [], ◌∷◌, ◌++◌, map, Some, None, Option}
+use Rattle.std.specs.Prelude.{◌≡◌, ℕ, Bool, List, [], ◌∷◌, ◌++◌, map, Some, None, Ok, Err, filter_map}
+use Rattle.std.specs.List.{range_with_len}
 use Rattle.kinds.specs.Joins.{either_class, either_acts}
 use Rattle.kinds.specs.Queues.{queue_class, queue_operation, queue_acts}
 use Rattle.kinds.specs.Rolls.{roll_class, roll_operation, roll_acts}
@@ -28,10 +29,9 @@ use Rattle.model.specs.declared.facts.Facts.{Facts}
 use Rattle.model.specs.declared.fault.EngineFault.TheVariants.{NumberOutOfRange, AlreadyOpen, ParentNotOpen, NotOpen, OpenChild, Waiting, NoObject, Kind, Store}
 use Rattle.model.specs.declared.fault.KindFault.TheVariants.{Unknown}
 use Rattle.model.specs.declared.fault.StoreFault.TheVariants.{Full}
-use Rattle.model.specs.declared.reply.Reply.{Reply}
-use Rattle.model.specs.declared.reply.Reply.TheVariants.{Accepted, Answered, Waits, Victim, NoVictim, Refused}
+use Rattle.model.specs.declared.reply.Reply.TheVariants.{Accepted, Answered, Waits, Victim}
 use Rattle.model.specs.Histories.{Event}
-use Rattle.model.specs.Model.{Setting, State, initially, respond}
+use Rattle.model.specs.Model.{Response, Setting, State, initially, respond}
 use Rattle.model.specs.Policies.{youngest, lightest}
 
 -- the objects of the product: a tally, or else a queue or a roll
@@ -51,15 +51,9 @@ product before =
       limit = 64;
     }
 
--- a tally before others, if its value is one
-abbrev pub before_others : Option Tally → List Thing → List Thing
-before_others None others = others
-before_others (Some t) others = Left t ∷ others
-
 -- the tallies of some values
 abbrev pub tallies : List ℕ → List Thing
-tallies [] = []
-tallies (v ∷ vs) = before_others (tally_at v) (tallies vs)
+tallies vs = map Left (filter_map tally_at vs)
 
 -- a victim policy, the initial values of some tallies, and calls with their replies in the order of calling
 pub record Example : Type 0 where
@@ -68,16 +62,16 @@ pub record Example : Type 0 where
   pub events : List Event
 
 -- a call and the reply that is due to it
-abbrev pub due : Call → Reply → Event
+abbrev pub due : Call → Response → Event
 due c r = record { call = c; reply = r }
 
 -- what some calls are told, one after the other
-abbrev pub replies_from : {S : Type 0} → Setting S → State S → List Event → List Reply
+abbrev pub replies_from : {S : Type 0} → Setting S → State S → List Event → List Response
 replies_from m s [] = []
 replies_from m s (e ∷ es) = let r = respond m s e.call in r.0 ∷ replies_from m r.1 es
 
 -- what the calls of an example are told
-abbrev pub replies : Example → List Reply
+abbrev pub replies : Example → List Response
 replies e = replies_from (product e.before) (initially (tallies e.values)) e.events
 
 -- t reads the tally x
@@ -93,25 +87,24 @@ abbrev pub unknown : Operation
 unknown = record { code = 9; first = 0; second = 0 }
 
 -- an answer of yes
-abbrev pub yes_with : ℕ → Reply
-yes_with n = Answered (Some n)
+abbrev pub yes_with : ℕ → Response
+yes_with n = Ok (Answered (Some n))
 
 -- top transactions 1 and 2 begin
 abbrev pub two_begin : List Event
-two_begin = due (Begin 1 0) Accepted ∷ due (Begin 2 0) Accepted ∷ []
+two_begin = due (Begin 1 0) (Ok Accepted) ∷ due (Begin 2 0) (Ok Accepted) ∷ []
 
 -- 1, 2 and a child 3 of 1 begin
 abbrev pub three_begin : List Event
-three_begin = two_begin ++ (due (Begin 3 1) Accepted ∷ [])
+three_begin = two_begin ++ (due (Begin 3 1) (Ok Accepted) ∷ [])
 
 -- 1 writes object 0, 2 writes object 1, then each asks for the other's
 abbrev pub crossed : List Event
-crossed = due (add 1 0 5) (yes_with 5) ∷ due (add 2 1 7) (yes_with 7) ∷ due (add 1 1 1) Waits ∷ due (add 2 0 1) Waits ∷ []
+crossed = due (add 1 0 5) (yes_with 5) ∷ due (add 2 1 7) (yes_with 7) ∷ due (add 1 1 1) (Ok Waits) ∷ due (add 2 0 1) (Ok Waits) ∷ []
 
 -- n ADDs of 1 by transaction 1 to object 0, at first k
 abbrev pub adds : ℕ → ℕ → List Event
-adds zero k = []
-adds (suc n) k = due (add 1 0 1) (yes_with k) ∷ adds n (suc k)
+adds n k = map (λ i. due (add 1 0 1) (yes_with i)) (range_with_len k n)
 
 -- one example before others
 abbrev pub row : (Facts → Facts → Bool) → List ℕ → List Event → List Example → List Example
@@ -122,31 +115,31 @@ abbrev pub examples : List Example
 examples =
     -- the highest number is accepted; one more and 0 are refused
     row youngest (0 ∷ [])
-    (due (Begin 64 0) Accepted ∷ due (Begin 65 0) (Refused NumberOutOfRange) ∷ due (Begin 0 0) (Refused NumberOutOfRange) ∷ [])
+    (due (Begin 64 0) (Ok Accepted) ∷ due (Begin 65 0) (Err NumberOutOfRange) ∷ due (Begin 0 0) (Err NumberOutOfRange) ∷ [])
     -- commit with an open child; commit while waiting
-    (row youngest (0 ∷ []) (three_begin ++ (due (Commit 1) (Refused OpenChild) ∷ due (Abort 3) Accepted ∷ due (add 2 0 1) (yes_with 1) ∷ due (show 1 0) Waits ∷ due (Commit 1) (Refused Waiting) ∷ []))
+    (row youngest (0 ∷ []) (three_begin ++ (due (Commit 1) (Err OpenChild) ∷ due (Abort 3) (Ok Accepted) ∷ due (add 2 0 1) (yes_with 1) ∷ due (show 1 0) (Ok Waits) ∷ due (Commit 1) (Err Waiting) ∷ []))
     -- two readers, and a writer that waits
-    (row youngest (0 ∷ []) (two_begin ++ (due (show 1 0) (yes_with 0) ∷ due (show 2 0) (yes_with 0) ∷ due (add 1 0 1) Waits ∷ []))
+    (row youngest (0 ∷ []) (two_begin ++ (due (show 1 0) (yes_with 0) ∷ due (show 2 0) (yes_with 0) ∷ due (add 1 0 1) (Ok Waits) ∷ []))
     -- a child writes what its parent has read
     (row youngest (0 ∷ []) (three_begin ++ (due (show 1 0) (yes_with 0) ∷ due (add 3 0 4) (yes_with 4) ∷ []))
     -- a parent waits for its child's write, and is answered after the child's commit
-    (row youngest (0 ∷ []) (three_begin ++ (due (add 3 0 4) (yes_with 4) ∷ due (show 1 0) Waits ∷ due (Commit 3) Accepted ∷ due (show 1 0) (yes_with 4) ∷ []))
+    (row youngest (0 ∷ []) (three_begin ++ (due (add 3 0 4) (yes_with 4) ∷ due (show 1 0) (Ok Waits) ∷ due (Commit 3) (Ok Accepted) ∷ due (show 1 0) (yes_with 4) ∷ []))
     -- the crossed pair under Youngest
-    (row youngest (0 ∷ 0 ∷ []) (two_begin ++ (crossed ++ (due BreakDeadlock (Victim 2) ∷ due (add 1 1 1) (yes_with 1) ∷ due BreakDeadlock NoVictim ∷ [])))
+    (row youngest (0 ∷ 0 ∷ []) (two_begin ++ (crossed ++ (due BreakDeadlock (Ok (Victim (Some 2))) ∷ due (add 1 1 1) (yes_with 1) ∷ due BreakDeadlock (Ok (Victim None)) ∷ [])))
     -- the crossed pair under Lightest, with one change more by 2
-    (row lightest (0 ∷ 0 ∷ []) (two_begin ++ (due (add 2 1 0) (yes_with 0) ∷ (crossed ++ (due BreakDeadlock (Victim 1) ∷ []))))
+    (row lightest (0 ∷ 0 ∷ []) (two_begin ++ (due (add 2 1 0) (yes_with 0) ∷ (crossed ++ (due BreakDeadlock (Ok (Victim (Some 1))) ∷ []))))
     -- a tally one below the largest number
-    (row youngest (999999998 ∷ []) (two_begin ++ (due (add 1 0 1) (yes_with 999999999) ∷ due (add 1 0 1) (Answered None) ∷ []))
+    (row youngest (999999998 ∷ []) (two_begin ++ (due (add 1 0 1) (yes_with 999999999) ∷ due (add 1 0 1) (Ok (Answered None)) ∷ []))
     -- a child's read lock is its parent's after its commit
-    (row youngest (0 ∷ []) (three_begin ++ (due (show 3 0) (yes_with 0) ∷ due (Commit 3) Accepted ∷ due (add 2 0 1) Waits ∷ due (Commit 1) Accepted ∷ due (add 2 0 1) (yes_with 1) ∷ []))
+    (row youngest (0 ∷ []) (three_begin ++ (due (show 3 0) (yes_with 0) ∷ due (Commit 3) (Ok Accepted) ∷ due (add 2 0 1) (Ok Waits) ∷ due (Commit 1) (Ok Accepted) ∷ due (add 2 0 1) (yes_with 1) ∷ []))
     -- a parent held up by another child: 4 holds what 2 waits for and does not wait itself, but 3 waits below the same parent
-    (row youngest (0 ∷ 0 ∷ []) (three_begin ++ (due (Begin 4 1) Accepted ∷ due (add 4 0 1) (yes_with 1) ∷ due (add 2 1 1) (yes_with 1) ∷ due (show 2 0) Waits ∷ due (show 3 1) Waits ∷ due BreakDeadlock (Victim 3) ∷ due (Commit 4) Accepted ∷ []))
+    (row youngest (0 ∷ 0 ∷ []) (three_begin ++ (due (Begin 4 1) (Ok Accepted) ∷ due (add 4 0 1) (yes_with 1) ∷ due (add 2 1 1) (yes_with 1) ∷ due (show 2 0) (Ok Waits) ∷ due (show 3 1) (Ok Waits) ∷ due BreakDeadlock (Ok (Victim (Some 3))) ∷ due (Commit 4) (Ok Accepted) ∷ []))
     -- a circle closed by a granted read: 3 reads what 2 waits to write, and a child of 3 waits for 2
-    (row youngest (0 ∷ 0 ∷ []) (two_begin ++ (due (Begin 3 0) Accepted ∷ due (Begin 4 3) Accepted ∷ due (show 1 0) (yes_with 0) ∷ due (add 2 1 1) (yes_with 1) ∷ due (add 2 0 1) Waits ∷ due (show 4 1) Waits ∷ due BreakDeadlock NoVictim ∷ due (show 3 0) (yes_with 0) ∷ due BreakDeadlock (Victim 4) ∷ []))
+    (row youngest (0 ∷ 0 ∷ []) (two_begin ++ (due (Begin 3 0) (Ok Accepted) ∷ due (Begin 4 3) (Ok Accepted) ∷ due (show 1 0) (yes_with 0) ∷ due (add 2 1 1) (yes_with 1) ∷ due (add 2 0 1) (Ok Waits) ∷ due (show 4 1) (Ok Waits) ∷ due BreakDeadlock (Ok (Victim None)) ∷ due (show 3 0) (yes_with 0) ∷ due BreakDeadlock (Ok (Victim (Some 4))) ∷ []))
     -- 1 changes a tally as often as the capacity allows, not once more; after its commit 2 can change it
-    (row youngest (0 ∷ []) (two_begin ++ (adds 16 1 ++ (due (add 1 0 1) (Refused (Store Full)) ∷ due (Commit 1) Accepted ∷ due (add 2 0 1) (yes_with 17) ∷ [])))
+    (row youngest (0 ∷ []) (two_begin ++ (adds 16 1 ++ (due (add 1 0 1) (Err (Store Full)) ∷ due (Commit 1) (Ok Accepted) ∷ due (add 2 0 1) (yes_with 17) ∷ [])))
     -- the first refusal that applies is told: of a begin, of a step and of a commit
-    (row youngest (0 ∷ []) (three_begin ++ (due (Begin 0 9) (Refused NumberOutOfRange) ∷ due (Begin 1 9) (Refused AlreadyOpen) ∷ due (Begin 4 9) (Refused ParentNotOpen) ∷ due (show 65 9) (Refused NumberOutOfRange) ∷ due (show 4 9) (Refused NotOpen) ∷ due (Step 1 9 unknown) (Refused NoObject) ∷ due (add 2 0 1) (yes_with 1) ∷ due (Step 1 0 unknown) (Refused (Kind Unknown)) ∷ due (add 1 0 1) Waits ∷ due (Commit 4) (Refused NotOpen) ∷ due (Commit 1) (Refused OpenChild) ∷ []))
+    (row youngest (0 ∷ []) (three_begin ++ (due (Begin 0 9) (Err NumberOutOfRange) ∷ due (Begin 1 9) (Err AlreadyOpen) ∷ due (Begin 4 9) (Err ParentNotOpen) ∷ due (show 65 9) (Err NumberOutOfRange) ∷ due (show 4 9) (Err NotOpen) ∷ due (Step 1 9 unknown) (Err NoObject) ∷ due (add 2 0 1) (yes_with 1) ∷ due (Step 1 0 unknown) (Err (Kind Unknown)) ∷ due (add 1 0 1) (Ok Waits) ∷ due (Commit 4) (Err NotOpen) ∷ due (Commit 1) (Err OpenChild) ∷ []))
     []))))))))))))
 
 -- each call of the table is told what the table says

@@ -14,15 +14,15 @@
 -- | kept_waiting | an account after a step that was told to wait |
 -- | joined       | an account after a commit |
 -- | rolled_back  | an account after an abort |
--- | if-accepted, stepped, if-victim | an account by what a call was told |
+-- | if_accepted, stepped, if_victim | an account by what a call was told |
 -- | stepped_by   | an account after a step, by what its operation is |
--- | class-in, class-at | what an operation is to an object, by its initial state |
+-- | class_in, class_at | what an operation is to an object, by its initial state |
 -- | class_of     | the class of the operations that ask for a lock of a mode |
 -- | noted        | an account after one more event |
 -- | account      | the account of a history |
 -- | kept         | the steps that were kept, in finishing order |
 -- | Follows      | a history leads from the initial states to a state |
-use Rattle.std.specs.Prelude.{◌≡◌, ℕ, suc, ◌+◌, List, [], ◌∷◌, ◌++◌, Some, None, Option}
+use Rattle.std.specs.Prelude.{◌≡◌, ℕ, suc, ◌+◌, List, [], ◌∷◌, ◌++◌, Some, None, Ok, Option}
 use Rattle.std.specs.List.{slice_get}
 use Rattle.kinds.specs.Outcomes.{Answer}
 use Rattle.kinds.specs.declared.answer.Class.{Class}
@@ -32,16 +32,15 @@ use Rattle.model.specs.declared.call.Call.{Call}
 use Rattle.model.specs.declared.call.Call.TheVariants.{Begin, Step, Commit, Abort, BreakDeadlock}
 use Rattle.model.specs.declared.lock.Mode.{Mode}
 use Rattle.model.specs.declared.lock.Mode.TheVariants.{Read, Write}
-use Rattle.model.specs.declared.reply.Reply.{Reply}
-use Rattle.model.specs.declared.reply.Reply.TheVariants.{Accepted, Answered, Waits, Victim, NoVictim, Refused}
-use Rattle.model.specs.Model.{Setting, State, initially, respond}
+use Rattle.model.specs.declared.reply.Reply.TheVariants.{Accepted, Answered, Waits, Victim}
+use Rattle.model.specs.Model.{Response, Setting, State, initially, respond}
 use Rattle.model.specs.Numbers.{put}
 use Rattle.model.specs.Tables.{Tables, vacant, opened, granted, delayed, handed, cut}
 
 -- a call and its reply
 pub record Event : Type 0 where
   pub call : Call
-  pub reply : Reply
+  pub reply : Response
 
 -- what has been called and replied, the latest first
 abbrev pub History : Type 0
@@ -134,37 +133,26 @@ abbrev pub rolled_back : ℕ → Account → Account
 rolled_back t A = record { tables = cut t A.tables; waiting_step = A.waiting_step; changes = A.changes; items = A.items }
 
 -- `then` if the call was accepted
-abbrev pub if_accepted : Reply → Account → Account → Account
-if_accepted Accepted A then = then
-if_accepted (Answered a) A then = A
-if_accepted Waits A then = A
-if_accepted (Victim t) A then = A
-if_accepted NoVictim A then = A
-if_accepted (Refused f) A then = A
+abbrev pub if_accepted : Response → Account → Account → Account
+if_accepted (Ok Accepted) A then = then
+if_accepted _ A then = A
 
 -- a step of a mode, by what it was told
-abbrev pub stepped : Mode → ℕ → Asked → Reply → Account → Account
-stepped mode t q Accepted A = A
-stepped mode t q (Answered a) A = answered mode t q a A
-stepped mode t q Waits A = kept_waiting mode t q A
-stepped mode t q (Victim u) A = A
-stepped mode t q NoVictim A = A
-stepped mode t q (Refused f) A = A
+abbrev pub stepped : Mode → ℕ → Asked → Response → Account → Account
+stepped mode t q (Ok (Answered a)) A = answered mode t q a A
+stepped mode t q (Ok Waits) A = kept_waiting mode t q A
+stepped mode t q _ A = A
 
 -- a step, by what its operation is to the object
-abbrev pub stepped_by : Class → ℕ → Asked → Reply → Account → Account
+abbrev pub stepped_by : Class → ℕ → Asked → Response → Account → Account
 stepped_by classes.Unknown t q r A = A
 stepped_by classes.Read t q r A = stepped Read t q r A
 stepped_by classes.Write t q r A = stepped Write t q r A
 
 -- a deadlock break, by whom it named
-abbrev pub if_victim : Reply → Account → Account
-if_victim Accepted A = A
-if_victim (Answered a) A = A
-if_victim Waits A = A
-if_victim (Victim t) A = rolled_back t A
-if_victim NoVictim A = A
-if_victim (Refused f) A = A
+abbrev pub if_victim : Response → Account → Account
+if_victim (Ok (Victim (Some t))) A = rolled_back t A
+if_victim _ A = A
 
 -- what an operation is to an object, by the object's initial state: it never changes
 abbrev pub class_in : {S : Type 0} → (S → Operation → Class) → Operation → Option S → Class
@@ -181,7 +169,7 @@ class_of Read = classes.Read
 class_of Write = classes.Write
 
 -- an account after one more call and its reply
-abbrev pub noted : {S : Type 0} → (S → Operation → Class) → List S → Account → Call → Reply → Account
+abbrev pub noted : {S : Type 0} → (S → Operation → Class) → List S → Account → Call → Response → Account
 noted class initial A (Begin t p) r = if_accepted r A (began t p A)
 noted class initial A (Step t x o) r = stepped_by (class_at class initial x o) t (record { object = x; operation = o }) r A
 noted class initial A (Commit t) r = if_accepted r A (joined t (A.tables.parent t) A)

@@ -4,9 +4,9 @@
 -- | smaller_first | the smaller number goes first, or else a further test decides |
 -- | youngest      | the higher ordinal, then the lower number, then fewer changes |
 -- | lightest      | fewer changes, then as youngest decides |
--- | leader        | the one of some transactions that goes before the others |
--- | foremost      | the same, if there is any |
+-- | foremost      | the one of some transactions that goes before the others, if there is any |
 use Rattle.std.specs.Prelude.{◌≡◌, ℕ, Bool, true, false, cond, not, List, [], ◌∷◌, Some, None, Option, ◌==◌, ◌≢◌, nat_lt}
+use Rattle.std.specs.List.{best_of}
 use Rattle.model.specs.declared.facts.Facts.{Facts}
 
 -- nothing goes before itself; of two that differ exactly one goes before the other; and before passes along a chain
@@ -27,12 +27,7 @@ youngest f g = smaller_first g.ordinal f.ordinal (smaller_first f.number g.numbe
 abbrev pub lightest : Facts → Facts → Bool
 lightest f g = smaller_first f.changes g.changes (youngest f g)
 
--- t, or the one of some others that goes before it and all the rest
-abbrev pub leader : (ℕ → ℕ → Bool) → ℕ → List ℕ → ℕ
-leader first t [] = t
-leader first t (u ∷ us) = leader first (cond (first u t) u t) us
-
 -- the one that goes before all others, if there is any
 abbrev pub foremost : (ℕ → ℕ → Bool) → List ℕ → Option ℕ
 foremost first [] = None
-foremost first (t ∷ ts) = Some (leader first t ts)
+foremost first (t ∷ ts) = Some (best_of first t ts)

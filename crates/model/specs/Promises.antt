@@ -17,7 +17,7 @@
 -- | Single          | every list of calls has one history and one end |
 -- | Always          | a promise for every capacity, policy and number of transactions |
 -- | AfterEveryRun   | a promise for all initial states and every list of calls |
-use Rattle.std.specs.Prelude.{◌≡◌, ℕ, zero, suc, ◌+◌, Bool, true, ◌⊎◌, ◌↔◌, List, map, length, Some, ◌≢◌}
+use Rattle.std.specs.Prelude.{◌≡◌, ℕ, zero, suc, ◌+◌, Bool, true, ◌⊎◌, ◌↔◌, List, map, length, Some, None, Ok, Err, ◌≢◌}
 use Rattle.std.specs.List.{slice_get}
 use Rattle.kinds.specs.declared.answer.Class.{Class}
 use Rattle.kinds.specs.declared.answer.Outcome.{Outcome}
@@ -27,7 +27,7 @@ use Rattle.model.specs.declared.call.Call.TheVariants.{Step, Commit, Abort, Brea
 use Rattle.model.specs.declared.facts.Facts.{Facts}
 use Rattle.model.specs.declared.fault.EngineFault.{EngineFault}
 use Rattle.model.specs.declared.lock.Wait.{Wait}
-use Rattle.model.specs.declared.reply.Reply.TheVariants.{Accepted, Waits, Victim, NoVictim, Refused}
+use Rattle.model.specs.declared.reply.Reply.TheVariants.{Accepted, Waits, Victim}
 use Rattle.model.specs.Deadlocks.{Deadlocked}
 use Rattle.model.specs.Histories.{History, Asked, Done, Account, account, kept, class_at, class_of, Follows}
 use Rattle.model.specs.Model.{Setting, State, respond}
@@ -78,21 +78,21 @@ FreeOfDeadlock T = (t : ℕ) → Deadlocked T t → ⊥
 pub record Names {S : Type 0} (m : Setting S) (initial : List S) (h : History) (s : State S) (v : ℕ) : Type 0 where
   pub deadlocked : Deadlocked (told m initial h).tables v
   pub first : (u : ℕ) → Deadlocked (told m initial h).tables u → (u ≢ v) → m.before (facts_told m initial h v) (facts_told m initial h u) ≡ true
-  pub abort_accepted : (respond m s (Abort v)).0 ≡ Accepted
-  pub reply : respond m s BreakDeadlock ≡ (Victim v, (respond m s (Abort v)).1)
+  pub abort_accepted : (respond m s (Abort v)).0 ≡ Ok Accepted
+  pub reply : respond m s BreakDeadlock ≡ (Ok (Victim (Some v)), (respond m s (Abort v)).1)
 
 -- a deadlock break says none exactly where nobody is deadlocked, and then changes nothing; else it names the right one
 pub record RightVictim {S : Type 0} (m : Setting S) (initial : List S) (h : History) (s : State S) : Type 0 where
-  pub none_exactly : (respond m s BreakDeadlock ≡ (NoVictim, s)) ↔ FreeOfDeadlock (told m initial h).tables
+  pub none_exactly : (respond m s BreakDeadlock ≡ (Ok (Victim None), s)) ↔ FreeOfDeadlock (told m initial h).tables
   pub named : (t : ℕ) → Deadlocked (told m initial h).tables t → (v : ℕ) × Names m initial h s v
 
 -- u's commit would be accepted, or its waiting step, repeated, would not be told to wait
 abbrev pub CanGoOn : {S : Type 0} → Setting S → List S → History → State S → ℕ → Type 0
 CanGoOn m initial h s u =
-    ((respond m s (Commit u)).0 ≡ Accepted)
+    ((respond m s (Commit u)).0 ≡ Ok Accepted)
     ⊎
     ((q : Asked) × ((told m initial h).waiting_step u ≡ Some q) × (waits (told m initial h).tables u ≡ true) ×
-    ((respond m s (Step u q.object q.operation)).0 ≢ Waits))
+    ((respond m s (Step u q.object q.operation)).0 ≢ Ok Waits))
 
 -- while something is open and nobody is deadlocked, some open transaction can go on
 abbrev pub Progress : {S : Type 0} → Setting S → List S → History → State S → Type 0
@@ -108,7 +108,7 @@ pub record Questions {S : Type 0} (m : Setting S) (initial : List S) (h : Histor
 
 -- a call that is refused, in whatever state, leaves the whole state
 abbrev pub Refusals : {S : Type 0} → Setting S → Type 0
-Refusals {S} m = (s : State S) (c : Call) (f : EngineFault) → (respond m s c).0 ≡ Refused f → (respond m s c).1 ≡ s
+Refusals {S} m = (s : State S) (c : Call) (f : EngineFault) → (respond m s c).0 ≡ Err f → (respond m s c).1 ≡ s
 
 -- the calls of a history, the latest first
 abbrev pub calls_of : History → List Call

@@ -12,7 +12,7 @@
 -- | stacked      | some versions after a change by an owner |
 -- | changed      | an object after a change by an owner |
 -- | handed_on    | an object whose uppermost version has gone to a parent |
--- | passed-from, passed | the same, if that version was a given owner's |
+-- | passed_from, passed | the same, if that version was a given owner's |
 -- | without_top  | some versions without the uppermost one, if that is an owner's |
 -- | dropped      | an object without its uppermost version, if that is an owner's |
 -- | update_of    | an update of an object, if there is one |

@@ -17,11 +17,11 @@
 -- | cut           | a transaction and all its descendants end at once |
 -- | by_depth      | some transactions, the deepest first |
 -- | closing_order | a transaction and its descendants, the deepest first |
-use Rattle.std.specs.Prelude.{ℕ, zero, suc, Bool, true, false, cond, ◌&&◌, ◌||◌, List, [], ◌++◌, is_some, Some, None, Option, ◌==◌, nat_eq, nat_lt}
+use Rattle.std.specs.Prelude.{ℕ, zero, suc, Bool, true, false, cond, ◌&&◌, ◌||◌, List, [], ◌++◌, is_some, Some, None, Option, ◌==◌, nat_lt, filter}
 use Rattle.model.specs.declared.lock.Mode.{Mode}
 use Rattle.model.specs.declared.lock.Mode.TheVariants.{Read, Write}
 use Rattle.model.specs.declared.lock.Wait.{Wait}
-use Rattle.model.specs.Numbers.{put, those, numbers, size}
+use Rattle.model.specs.Numbers.{put, numbers, size}
 
 -- the tree, the waits and the locks, by transaction numbers; 0 is no transaction
 pub record Tables : Type 0 where
@@ -135,8 +135,8 @@ cut t T =
 -- of some transactions, those of depth n, then those of depth n - 1, and so on; the depth is the size of the line
 abbrev pub by_depth : ℕ → Tables → ℕ → List ℕ → List ℕ
 by_depth limit T zero us = []
-by_depth limit T (suc n) us = those (λ u. nat_eq (size limit (T.line u)) (suc n)) us ++ by_depth limit T n us
+by_depth limit T (suc n) us = filter (λ u. size limit (T.line u) == suc n) us ++ by_depth limit T n us
 
 -- t and its descendants, the deepest first, and equally deep ones by number
 abbrev pub closing_order : ℕ → Tables → ℕ → List ℕ
-closing_order limit T t = by_depth limit T limit (those (λ u. T.line u t) (numbers limit))
+closing_order limit T t = by_depth limit T limit (filter (λ u. T.line u t) (numbers limit))

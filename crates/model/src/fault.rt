@@ -4,20 +4,20 @@ ghost use Rattle.model.specs.Faults.{kind_number, store_number, engine_number, l
 ghost use Rattle.model.specs.declared.fault.EngineFault.TheVariants.{Kind as InKind, Store as InStore};
 
 // A kind refuses an operation.
-#[derive(Clone, Copy)]
+#[derive(Clone, Copy, PartialEq, Eq, Hash, Debug)]
 pub enum KindFault {
     Unknown,
     NotARead,
 }
 
 // A store refuses a change.
-#[derive(Clone, Copy)]
+#[derive(Clone, Copy, PartialEq, Eq, Hash, Debug)]
 pub enum StoreFault {
     Full,
 }
 
 // The engine refuses a call, or passes on what refused it.
-#[derive(Clone, Copy)]
+#[derive(Clone, Copy, PartialEq, Eq, Hash, Debug)]
 pub enum EngineFault {
     NumberOutOfRange,
     AlreadyOpen,
@@ -67,6 +67,7 @@ impl EngineFault {
     }
 
     // The word of the layer that refused.
+    // No enum with `Display`: nobody acts by it, and scripts add a layer with a word of its own.
     pub fn layer(self) -> &'static str
         ensures { result.now ≡ layer_word self }
     {

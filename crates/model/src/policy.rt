@@ -5,6 +5,7 @@ ghost use Rattle.model.specs.Policies.{Order, youngest, lightest};
 ghost use Rattle.std.proofs.Common.{rules};
 
 use crate::facts::Facts;
+use std::cmp::Reverse;
 
 // Says of two transactions' facts whether the first goes before the second.
 pub trait VictimPolicy: Copy {
@@ -23,7 +24,7 @@ pub trait VictimPolicy: Copy {
 #[derive(Clone, Copy)]
 pub struct Youngest;
 
-// Fewer changes go first, then as Youngest decides.
+// Fewer changes go first, then as Youngest decides: by ordinal and number, the changes being equal.
 #[derive(Clone, Copy)]
 pub struct Lightest;
 
@@ -33,13 +34,8 @@ impl VictimPolicy for Youngest {
     ghost order = { Prim.search rules };
 
     fn goes_before(self, first: Facts, second: Facts) -> bool {
-        if first.ordinal != second.ordinal {
-            return first.ordinal > second.ordinal;
-        }
-        if first.number != second.number {
-            return first.number < second.number;
-        }
-        first.changes < second.changes
+        let by_age = |facts: Facts| (Reverse(facts.ordinal), facts.number, facts.changes);
+        by_age(first) < by_age(second)
     }
 }
 
@@ -49,9 +45,7 @@ impl VictimPolicy for Lightest {
     ghost order = { Prim.search rules };
 
     fn goes_before(self, first: Facts, second: Facts) -> bool {
-        if first.changes != second.changes {
-            return first.changes < second.changes;
-        }
-        Youngest.goes_before(first, second)
+        let by_changes = |facts: Facts| (facts.changes, Reverse(facts.ordinal), facts.number);
+        by_changes(first) < by_changes(second)
     }
 }

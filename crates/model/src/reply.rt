@@ -1,20 +1,18 @@
 // What a call is told, and what a question is.
-use crate::fault::EngineFault;
 use kinds::answer::Answer;
 
-// What a call is told. `NoVictim` is told where nobody is deadlocked.
-#[derive(Clone, Copy)]
+// What a call is told that is not refused; a refusal is an `EngineFault`.
+#[derive(Clone, Copy, PartialEq, Eq, Debug)]
 pub enum Reply {
     Accepted,
     Answered(Answer),
     Waits,
-    Victim(u32),
-    NoVictim,
-    Refused(EngineFault),
+    // The transaction aborted to break a deadlock; none where nobody is deadlocked.
+    Victim(Option<u32>),
 }
 
 // What a transaction number is in use for.
-#[derive(Clone, Copy)]
+#[derive(Clone, Copy, PartialEq, Eq, Debug)]
 pub enum Condition {
     Free,
     Waiting,
@@ -22,7 +20,7 @@ pub enum Condition {
 }
 
 // How many transactions hold each lock of an object. One with both counts in both.
-#[derive(Clone, Copy)]
+#[derive(Clone, Copy, PartialEq, Eq, Debug)]
 pub struct LockCounts {
     pub readers: u32,
     pub writers: u32,

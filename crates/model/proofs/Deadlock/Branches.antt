@@ -1,12 +1,13 @@
 -- The branch of a holder exists, and the tests of waits and of deadlock decide what they stand for.
-use Rattle.std.proofs.Common.{◌≡◌, ℕ, zero, suc, ◌<◌, Bool, true, false, not, ◌&&◌, eqb, List, Some, None, Decides, Option, sym, ◌∙◌, subst, inl, inr, arith}
+use Rattle.std.proofs.Common.{◌≡◌, ℕ, zero, suc, ◌<◌, Bool, true, false, not, ◌&&◌, eqb, List, Some, None, Decides, Option, sym, ◌∙◌, subst, inl, inr, arith, filter}
+use Rattle.std.specs.List.{list_any}
 use Rattle.std.proofs.lemmas.Bool.{cases_Bool, both_ways, false≢true, not-true, not_from_false, and_parts, and_from, or_cases, eqb-true}
 use Rattle.model.specs.declared.lock.Mode.{Mode}
 use Rattle.model.specs.declared.lock.Wait.{Wait}
 use Rattle.model.specs.Deadlocks.{Branch, WaitsFor, Leads, Deadlocked, against, conflicts, blocks, blocks_for, meets, waits_for, waiting, deadlocked}
-use Rattle.model.specs.Numbers.{has, any, those, numbers}
+use Rattle.model.specs.Numbers.{numbers}
 use Rattle.model.specs.Tables.{Tables, is_open, waits}
-use Rattle.model.proofs.General.Finite.{any_from, any_some, has_those}
+use Rattle.model.proofs.General.Finite.{any_from, any_some, has_filter, has}
 use Rattle.model.proofs.Tree.Granting.{against_holds}
 use Rattle.model.proofs.Tree.Invariants.{Tree, Locks}
 use Rattle.model.proofs.Tree.Lines.{open_number, parent_is_open, parent_on_line, parent_earlier}
@@ -90,8 +91,8 @@ module _ (limit : ℕ) (T : Tables) (tree : Tree limit T) where
           (not_from_false (T.line t b) branch.outside))
 
   -- an open one that passes is among those kept
-  kept : (p : ℕ → Bool) (u : ℕ) → is_open T u ≡ true → p u ≡ true → has u (those p (numbers limit)) ≡ true
-  kept p u o e = has_those p (numbers limit) u ∙ and_from (has u (numbers limit)) (p u) (open_number limit T tree u o) e
+  kept : (p : ℕ → Bool) (u : ℕ) → is_open T u ≡ true → p u ≡ true → has u (filter p (numbers limit)) ≡ true
+  kept p u o e = has_filter p (numbers limit) u ∙ and_from (has u (numbers limit)) (p u) (open_number limit T tree u o) e
 
   module _ (locks : Locks T) where
     pub conflicts_open : (t x : ℕ) (mode : Mode) (h : ℕ) → conflicts T t x mode h ≡ true → is_open T h ≡ true
@@ -112,20 +113,20 @@ module _ (limit : ℕ) (T : Tables) (tree : Tree limit T) where
     waits_for_decides t u = (to_wait, from_wait)
       where
         blockers : List ℕ
-        blockers = those (blocks T t) (numbers limit)
+        blockers = filter (blocks T t) (numbers limit)
 
         to_wait : waits_for limit T t u ≡ true → WaitsFor T t u
         to_wait e =
-            let (too, some) = and_parts (waits T u) (any (meets limit T t u) blockers) e in
+            let (too, some) = and_parts (waits T u) (list_any (meets limit T t u) blockers) e in
             let (h, m, q) = any_some (meets limit T t u) blockers some in
             let (b, branch, ub) = (meets_decides t u h).0 q in
-            let blocked = (and_parts (has h (numbers limit)) (blocks T t h) (sym (has_those (blocks T t) (numbers limit) h) ∙ m)).1 in
+            let blocked = (and_parts (has h (numbers limit)) (blocks T t h) (sym (has_filter (blocks T t) (numbers limit) h) ∙ m)).1 in
             record { holder = h; branch = b; blocked = blocked; the_branch = branch; at_or_below = ub; waits_too = too }
 
         from_wait : WaitsFor T t u → waits_for limit T t u ≡ true
         from_wait w =
             let h = w.holder in
-            and_from (waits T u) (any (meets limit T t u) blockers) w.waits_too
+            and_from (waits T u) (list_any (meets limit T t u) blockers) w.waits_too
             (any_from (meets limit T t u) blockers h (kept (blocks T t) h (blocks_open t h w.blocked) w.blocked)
             ((meets_decides t u h).1 (w.branch, w.the_branch, w.at_or_below)))
 

@@ -1,9 +1,10 @@
 -- The foremost of some transactions, under an order on their facts, is one of them and goes before each other one.
 use Rattle.std.proofs.Common.{◌≡◌, ℕ, Bool, true, false, cond, not, eqb, ◌⊎◌, List, [], ◌∷◌, Some, None, sym, refl, ap, ◌∙◌, subst, inl, inr, arith}
+use Rattle.std.specs.List.{best_of}
+use Rattle.model.proofs.General.Finite.{has}
 use Rattle.std.proofs.lemmas.Bool.{cases_eq, cond_both, false≢true, not_from_false, or_cases, or_left, or_right, eqb-true, eq-eqb}
 use Rattle.model.specs.declared.facts.Facts.{Facts}
-use Rattle.model.specs.Numbers.{has}
-use Rattle.model.specs.Policies.{Order, leader, foremost}
+use Rattle.model.specs.Policies.{Order, foremost}
 
 -- a total order on numbers, as a test
 record Ranks (first : ℕ → ℕ → Bool) : Type 0 where
@@ -15,15 +16,15 @@ abbrev AtOrBefore : (ℕ → ℕ → Bool) → ℕ → ℕ → Type 0
 AtOrBefore first a b = (a ≡ b) ⊎ (first a b ≡ true)
 
 module _ (first : ℕ → ℕ → Bool) where
-  -- the one of two that leader goes on with
+  -- the one of two that the search goes on with
   abbrev ahead : ℕ → ℕ → ℕ
   ahead t u = cond (first u t) u t
 
-  has_leader : (t : ℕ) (us : List ℕ) → has (leader first t us) (t ∷ us) ≡ true
-  has_leader t [] = or_left (eqb t t) false (eq-eqb t t refl)
-  has_leader t (u ∷ us) =
-      let v = leader first (ahead t u) us in
-      elim (or_cases (eqb v (ahead t u)) (has v us) (has_leader (ahead t u) us)) [
+  has_best : (t : ℕ) (us : List ℕ) → has (best_of first t us) (t ∷ us) ≡ true
+  has_best t [] = or_left (eqb t t) false (eq-eqb t t refl)
+  has_best t (u ∷ us) =
+      let v = best_of first (ahead t u) us in
+      elim (or_cases (eqb v (ahead t u)) (has v us) (has_best (ahead t u) us)) [
         | inl e ↦
             cond_both (first u t) u t (λ x. v ≡ x → has v (t ∷ u ∷ us) ≡ true)
             (λ c same. or_right (eqb v t) (has v (u ∷ us)) (or_left (eqb v u) (has v us) (eq-eqb v u same)))
@@ -46,25 +47,25 @@ module _ (first : ℕ → ℕ → Bool) where
         cond_both (first u t) u t (λ x. AtOrBefore first x u) (λ e. inl refl)
         (λ e. elim (cases_eq t u) [ inl same ↦ inl same | inr apart ↦ inr (ranks.apart t u apart ∙ not_from_false (first u t) e) ])
 
-    leader_old : (t : ℕ) (us : List ℕ) → AtOrBefore first (leader first t us) t
-    leader_old t [] = inl refl
-    leader_old t (u ∷ us) = at_or_before_on (leader first (ahead t u) us) (ahead t u) t (leader_old (ahead t u) us) (ahead_old t u)
+    best_old : (t : ℕ) (us : List ℕ) → AtOrBefore first (best_of first t us) t
+    best_old t [] = inl refl
+    best_old t (u ∷ us) = at_or_before_on (best_of first (ahead t u) us) (ahead t u) t (best_old (ahead t u) us) (ahead_old t u)
 
-    leader_each : (t : ℕ) (us : List ℕ) (x : ℕ) → has x us ≡ true → AtOrBefore first (leader first t us) x
-    leader_each t [] x m = absurd (false≢true m)
-    leader_each t (u ∷ us) x m =
+    best_each : (t : ℕ) (us : List ℕ) (x : ℕ) → has x us ≡ true → AtOrBefore first (best_of first t us) x
+    best_each t [] x m = absurd (false≢true m)
+    best_each t (u ∷ us) x m =
         elim (or_cases (eqb x u) (has x us) m) [
           | inl e ↦
-              at_or_before_on (leader first (ahead t u) us) (ahead t u) x (leader_old (ahead t u) us)
+              at_or_before_on (best_of first (ahead t u) us) (ahead t u) x (best_old (ahead t u) us)
               (subst (λ (y : ℕ). AtOrBefore first (ahead t u) y) (sym (eqb-true x u e)) (ahead_new t u))
-          | inr e ↦ leader_each (ahead t u) us x e
+          | inr e ↦ best_each (ahead t u) us x e
         ]
 
-    leader_before : (t : ℕ) (us : List ℕ) (x : ℕ) → has x (t ∷ us) ≡ true → AtOrBefore first (leader first t us) x
-    leader_before t us x m =
+    best_before : (t : ℕ) (us : List ℕ) (x : ℕ) → has x (t ∷ us) ≡ true → AtOrBefore first (best_of first t us) x
+    best_before t us x m =
         elim (or_cases (eqb x t) (has x us) m) [
-          | inl e ↦ subst (λ (y : ℕ). AtOrBefore first (leader first t us) y) (sym (eqb-true x t e)) (leader_old t us)
-          | inr e ↦ leader_each t us x e
+          | inl e ↦ subst (λ (y : ℕ). AtOrBefore first (best_of first t us) y) (sym (eqb-true x t e)) (best_old t us)
+          | inr e ↦ best_each t us x e
         ]
 
 -- there is no foremost one only of none
@@ -91,10 +92,10 @@ module _ (before : Facts → Facts → Bool) (order : Order before) (f : ℕ →
   pub foremost_some : (ts : List ℕ) (v : ℕ) → foremost (λ t u. before (f t) (f u)) ts ≡ Some v → (has v ts ≡ true) × ((u : ℕ) → has u ts ≡ true → (u ≡ v → ⊥) → before (f v) (f u) ≡ true)
   foremost_some [] v e = absurd (grind arith)
   foremost_some (t ∷ ts) v e =
-      let same : leader by_facts t ts ≡ v = cc in (
-        subst (λ (x : ℕ). has x (t ∷ ts) ≡ true) same (has_leader by_facts t ts),
+      let same : best_of by_facts t ts ≡ v = cc in (
+        subst (λ (x : ℕ). has x (t ∷ ts) ≡ true) same (has_best by_facts t ts),
         λ u m differ.
-            elim (subst (λ (x : ℕ). AtOrBefore by_facts x u) same (leader_before by_facts ranks_by_facts t ts u m)) [
+            elim (subst (λ (x : ℕ). AtOrBefore by_facts x u) same (best_before by_facts ranks_by_facts t ts u m)) [
               | inl p ↦ absurd (differ (sym p))
               | inr p ↦ p
             ],

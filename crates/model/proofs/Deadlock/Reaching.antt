@@ -1,8 +1,8 @@
 -- The closure test decides whether a chain of steps leads from one number to another.
 use Rattle.std.proofs.Common.{◌≡◌, ℕ, Bool, true, ◌&&◌, eqb, List, [], ◌∷◌, Decides, subst, inl, inr}
+use Rattle.model.proofs.General.Finite.{has}
 use Rattle.std.proofs.lemmas.Bool.{false≢true, and_parts, and_from, or_cases, or_left, or_right, eqb-true}
 use Rattle.model.specs.Deadlocks.{Leads, reaches}
-use Rattle.model.specs.Numbers.{has}
 
 -- two chains make one
 pub leads_on : {R : ℕ → ℕ → Type 0} {a b c : ℕ} → Leads R a b → Leads R b c → Leads R a c

@@ -1,15 +1,10 @@
 -- What stands at a place of a list, and lists that match place by place.
-use Rattle.std.proofs.Common.{◌≡◌, ℕ, zero, suc, false, cond, eqb, List, [], ◌∷◌, map, Some, None, Option, refl, subst, inl, inr}
+use Rattle.std.proofs.Common.{◌≡◌, ℕ, zero, suc, false, cond, eqb, List, [], ◌∷◌, Some, None, Option, refl, subst, inl, inr}
 use lib.Dec.{eqb-zero-suc, eqb-suc-zero, eqb-suc-suc}
 use Rattle.std.specs.Option.{option_map}
 use Rattle.std.specs.List.{slice_get}
 use Rattle.std.proofs.lemmas.Bool.{cases_Bool, eqb-true}
 use Rattle.model.specs.Numbers.{at}
-
-pub nth_map : {A B : Type 0} (f : A → B) (xs : List A) (i : ℕ) → slice_get (map f xs) i ≡ option_map f (slice_get xs i)
-nth_map f [] i = refl
-nth_map f (x ∷ xs) zero = refl
-nth_map f (x ∷ xs) (suc i) = nth_map f xs i
 
 pub nth_at : {A : Type 0} (y : ℕ) (f : A → A) (xs : List A) (i : ℕ) → slice_get (at y f xs) i ≡ cond (eqb y i) (option_map f (slice_get xs i)) (slice_get xs i)
 nth_at y f [] i = elim (cases_Bool (eqb y i)) [ inl e ↦ rw e | inr e ↦ rw e ]

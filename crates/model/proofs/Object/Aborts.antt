@@ -1,10 +1,10 @@
 -- An abort keeps what holds of an object.
 use Rattle.std.proofs.Common.{◌≡◌, ℕ, Bool, true, false, eqb, List, sym, ap, ◌∙◌}
+use Rattle.model.proofs.General.Finite.{has}
 use mathlib.Core.Path.{fun_ext}
 use Rattle.std.proofs.lemmas.Bool.{or_right}
 use Rattle.model.specs.Histories.{Items, in_order}
 use Rattle.model.specs.Model.{Setting}
-use Rattle.model.specs.Numbers.{has}
 use Rattle.model.specs.Stores.{Version, Object, object, owned}
 use Rattle.model.specs.Tables.{closing_order, Tables, is_open, holds, cut}
 use Rattle.model.proofs.Object.Cutting.{left, each_left, seen_left, owned_left, stack_left, stripped, stripped_left}

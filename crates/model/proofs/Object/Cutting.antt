@@ -1,7 +1,7 @@
 -- What taking away the versions of a transaction and its descendants does to one object.
-use Rattle.std.proofs.Common.{◌≡◌, ℕ, Bool, true, false, not, eqb, List, [], ◌∷◌, sym, refl, ap, ◌∙◌, subst, inl, inr, zero-add}
+use Rattle.std.proofs.Common.{◌≡◌, ℕ, Bool, true, false, not, eqb, List, [], ◌∷◌, sym, refl, ap, ◌∙◌, subst, inl, inr, zero-add, filter}
+use Rattle.model.proofs.General.Finite.{has}
 use Rattle.std.proofs.lemmas.Bool.{cases_Bool, both_ways, or_cases, or_left, or_right, eqb-true, eqb-false, eq-eqb, ne_eqb}
-use Rattle.model.specs.Numbers.{those, has}
 use Rattle.model.specs.Stores.{Version, owned, without_top}
 use Rattle.model.specs.Tables.{Tables}
 use Rattle.model.proofs.Tree.Depths.{DescendantsFirst}
@@ -12,7 +12,7 @@ use Rattle.model.proofs.Object.Seeing.{Each, each_map, each_both, seen}
 module _ {S : Type 0} (gone : ℕ → Bool) where
   -- the versions of those that are left
   abbrev pub left : List (Version S) → List (Version S)
-  left vs = those (λ v. not (gone v.owner)) vs
+  left vs = filter (λ v. not (gone v.owner)) vs
 
   pub each_left : (P : Version S → Type 0) (vs : List (Version S)) → Each P vs → Each P (left vs)
   each_left P [] e = tt

@@ -1,10 +1,10 @@
 -- Steps on one object: where they lead from a state, and whether they get their recorded answers.
 use Rattle.std.proofs.Common.{◌≡◌, ℕ, Bool, true, false, cond, ◌||◌, eqb, List, [], ◌∷◌, ◌++◌, sym, refl, ap, ◌∙◌, subst, inl, inr}
+use Rattle.std.specs.List.{list_any}
 use Rattle.std.proofs.lemmas.Bool.{cases_Bool, both_ways, or_parts}
 use Rattle.kinds.specs.declared.answer.Outcome.{Outcome}
 use Rattle.kinds.specs.declared.operation.Operation.{Operation}
 use Rattle.model.specs.Histories.{Done}
-use Rattle.model.specs.Numbers.{any}
 
 -- the step is on x
 abbrev pub on : ℕ → Done → Bool
@@ -12,7 +12,7 @@ on x d = eqb d.asked.object x
 
 -- some step is on x
 abbrev pub touches : ℕ → List Done → Bool
-touches x ds = any (on x) ds
+touches x ds = list_any (on x) ds
 
 module _ {S : Type 0} (acts : S → Operation → Outcome S) where
   -- the state of x after a step

@@ -2,6 +2,7 @@
 use Rattle.std.proofs.Common.{◌≡◌, ℕ, true, false, ◌||◌, eqb, List, map, Some, None, Option, sym, refl, ap, ◌∙◌, subst, inl, inr, arith}
 use Rattle.std.specs.Option.{option_map}
 use Rattle.std.specs.List.{slice_get}
+use Rattle.std.proofs.lemmas.Option.{slice_get-map}
 use Rattle.std.proofs.lemmas.Bool.{cases_Bool, ne_eqb, and_parts, leb-true, false≢true, or_from}
 use Rattle.model.specs.declared.lock.Mode.{Mode}
 use Rattle.model.specs.declared.lock.Wait.{Wait}
@@ -21,13 +22,13 @@ use Rattle.model.proofs.Object.Commits.{object_committed}
 use Rattle.model.proofs.Object.Steps.{object_relocked}
 use Rattle.model.proofs.Object.Invariant.{SoundObject}
 use Rattle.model.proofs.Tree.Openings.{opened_tree, opened_locks}
-use Rattle.model.proofs.General.Places.{Matched, matched_map, matched_same, nth_map}
+use Rattle.model.proofs.General.Places.{Matched, matched_map, matched_same}
 use Rattle.model.proofs.Object.Runs.{runs_nothing, touches, touches_append}
 use Rattle.model.proofs.Run.Invariant.{Sound, WaitsWith}
 
 -- nobody waits for what is not there
 none_some : {A X : Type 0} (a : A) → None ≡ Some a → X
-none_some a e = absurd (let z : ◌≡◌ {A = ℕ} 0 1 = cc in omega arith)
+none_some a e = absurd cc
 
 -- where nothing is open, everything holds
 vacant_tree : (limit : ℕ) → Tree limit vacant
@@ -59,7 +60,7 @@ module _ {S : Type 0} (m : Setting S) (initial : List S) where
         each =
             λ x.
             subst (λ (b : Option (Object S)). Matched (SoundObject m vacant blank.items (blank.changes x) x) (slice_get initial x) b)
-            (sym (nth_map made initial x)) (new x (slice_get initial x));
+            (sym (slice_get-map made initial x)) (new x (slice_get initial x));
         known = λ x e u. refl;
         asks = λ u w e. none_some w e;
       }
@@ -146,7 +147,7 @@ module _ {S : Type 0} (m : Setting S) (initial : List S) where
               subst
               (λ (b : Option (Object S)).
               Matched (SoundObject m (N) (joined t (T.parent t) A).items ((joined t (T.parent t) A).changes x) x)
-              (slice_get initial x) b) (sym (nth_map (passed t (T.parent t)) obs x))
+              (slice_get initial x) b) (sym (slice_get-map (passed t (T.parent t)) obs x))
               (matched_map _ _ (passed t (T.parent t))
               (λ s ob h. object_committed m T sound.tree sound.locks t o leaf A.items (A.changes x) x s ob h) (slice_get initial x)
               (slice_get obs x) (sound.each x));
@@ -186,7 +187,7 @@ module _ {S : Type 0} (m : Setting S) (initial : List S) where
               subst
               (λ (b : Option (Object S)).
               Matched (SoundObject m (rolled_back t A).tables A.items (A.changes x) x) (slice_get initial x) b)
-              (sym (nth_map (cut_off t) obs x))
+              (sym (slice_get-map (cut_off t) obs x))
               (matched_map _ _ (cut_off t)
               (λ s ob h.
               subst

@@ -1,8 +1,10 @@
 -- Transactions that end one after the other end all at once.
 use Rattle.std.proofs.Common.{◌≡◌, ℕ, Bool, true, false, cond, ◌||◌, eqb, List, [], ◌∷◌, map, None, sym, refl, ap, ◌∙◌}
+use Rattle.model.proofs.General.Finite.{has}
+use mathlib.Core.List.{map-map}
 use mathlib.Core.Path.{fun_ext}
+use Rattle.std.proofs.lemmas.List.{map-id}
 use Rattle.model.specs.Model.{State, state, ended, aborted}
-use Rattle.model.specs.Numbers.{has}
 use Rattle.model.specs.Stores.{Object, object, dropped, discard}
 use Rattle.model.specs.Tables.{closing_order, Tables, closed, cut}
 use Rattle.model.proofs.Object.Cutting.{stripped}
@@ -30,14 +32,6 @@ removed_twice f g T =
       begins = T.begins;
     }
 
-pub map_map : {A B C : Type 0} (f : B → C) (g : A → B) (xs : List A) → map f (map g xs) ≡ map (λ x. f (g x)) xs
-map_map f g [] = refl
-map_map f g (x ∷ xs) = ap (λ ys. f (g x) ∷ ys) (map_map f g xs)
-
-map_same : {A : Type 0} (xs : List A) → map (λ x. x) xs ≡ xs
-map_same [] = refl
-map_same (x ∷ xs) = ap (λ ys. x ∷ ys) (map_same xs)
-
 module _ {S : Type 0} where
   -- an object without the versions of some, taken off one after the other
   abbrev pub strip : List ℕ → Object S → Object S
@@ -49,9 +43,9 @@ module _ {S : Type 0} where
       ended_tables us (state (closed u s.tables) (discard u s.objects)) ∙ removed_twice (λ v. has v us) (λ v. eqb v u) s.tables
 
   pub ended_objects : (us : List ℕ) (s : State S) → (ended us s).objects ≡ map (strip us) s.objects
-  ended_objects [] s = sym (map_same s.objects)
+  ended_objects [] s = sym (map-id s.objects)
   ended_objects (u ∷ us) s =
-      ended_objects us (state (closed u s.tables) (discard u s.objects)) ∙ map_map (strip us) (dropped u) s.objects
+      ended_objects us (state (closed u s.tables) (discard u s.objects)) ∙ map-map (strip us) (dropped u) s.objects
 
   -- an abort cuts the whole subtree
   pub aborted_tables : (limit : ℕ) (T : Tables) (obs : List (Object S)) → Tree limit T → (t : ℕ) → (aborted limit t (state T obs)).tables ≡ cut t T

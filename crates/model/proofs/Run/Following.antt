@@ -1,5 +1,5 @@
 -- Every call keeps what holds after every list of calls, and the account goes with the state.
-use Rattle.std.proofs.Common.{◌≡◌, ℕ, Bool, true, false, cond, ◌||◌, eqb, List, [], ◌∷◌, Some, None, Ok, Err, Option, sym, refl, ap, ◌∙◌, subst, arith}
+use Rattle.std.proofs.Common.{◌≡◌, ℕ, Bool, true, false, cond, ◌||◌, eqb, List, [], ◌∷◌, Some, None, Ok, Err, Option, sym, refl, ap, ◌∙◌, subst}
 use Rattle.std.specs.List.{slice_get}
 use Rattle.kinds.specs.declared.answer.Class.{Class}
 use Rattle.kinds.specs.declared.answer.Class.TheVariants as classes
@@ -10,12 +10,11 @@ use Rattle.model.specs.declared.fault.EngineFault.{EngineFault}
 use Rattle.model.specs.declared.fault.EngineFault.TheVariants.{NoObject}
 use Rattle.model.specs.declared.fault.StoreFault.TheVariants.{Full}
 use Rattle.model.specs.declared.lock.Mode.TheVariants.{Read, Write}
-use Rattle.model.specs.declared.reply.Reply.{Reply}
-use Rattle.model.specs.declared.reply.Reply.TheVariants.{Accepted, Answered, Waits, Refused}
+use Rattle.model.specs.declared.reply.Reply.TheVariants.{Accepted, Answered, Waits}
 use Rattle.model.specs.Deadlocks.{in_conflict}
 use Rattle.model.specs.Histories.{Account, History, Asked, noted, account, class_at, class_in, stepped_by, rolled_back, Follows}
 use Rattle.model.specs.Checks.{begin_fault, absent_fault, commit_fault, numbered, has_child}
-use Rattle.model.specs.Model.{Setting, State, state, respond, unless, step_at, step_by, step_written, committed, aborted, deadlock_broken, victim}
+use Rattle.model.specs.Model.{Response, Setting, State, state, respond, unless, step_at, step_by, step_written, committed, aborted, deadlock_broken, victim}
 use Rattle.model.specs.Numbers.{at}
 use Rattle.model.specs.Stores.{Object, top, weight, update_of, changed}
 use Rattle.model.specs.Tables.{closing_order, Tables, is_open, opened, granted, delayed}
@@ -29,11 +28,11 @@ use Rattle.model.proofs.Run.Invariant.{Lawful, Sound}
 -- a test that was passed, where a failure is refused
 pub passed_so : (b : Bool) (x : Option EngineFault) (f : EngineFault) → cond b x (Some f) ≡ None → (b ≡ true) × (x ≡ None)
 passed_so true x f e = (refl, e)
-passed_so false x f e = absurd (let z : ◌≡◌ {A = ℕ} 0 1 = cc in omega arith)
+passed_so false x f e = absurd cc
 
 pub passed_not : (b : Bool) (x : Option EngineFault) (f : EngineFault) → cond b (Some f) x ≡ None → (b ≡ false) × (x ≡ None)
 passed_not false x f e = (refl, e)
-passed_not true x f e = absurd (let z : ◌≡◌ {A = ℕ} 0 1 = cc in omega arith)
+passed_not true x f e = absurd cc
 
 pub begin_free : (limit : ℕ) (T : Tables) (t p : ℕ) → begin_fault limit T t p ≡ None → (numbered limit t ≡ true) × (is_open T t ≡ false) × ((eqb p 0 || is_open T p) ≡ true)
 begin_free limit T t p e =
@@ -50,7 +49,7 @@ commit_free limit T t e =
 
 module _ {S : Type 0} (m : Setting S) (lawful : Lawful m) (initial : List S) where
   -- after a reply the account has the tables of the state, and all holds
-  abbrev pub Kept : Account → Call → Reply × State S → Type 0
+  abbrev pub Kept : Account → Call → Response × State S → Type 0
   Kept A c r =
       (r.1.tables ≡ (noted m.class initial A c r.0).tables) × Sound m initial (noted m.class initial A c r.0) r.1.objects
 
@@ -61,11 +60,11 @@ module _ {S : Type 0} (m : Setting S) (lawful : Lawful m) (initial : List S) whe
     abbrev s : State S
     s = state T obs
 
-    begin_keeps : (t p : ℕ) (f : Option EngineFault) → begin_fault m.limit T t p ≡ f → Kept A (Begin t p) (unless f s (Accepted, state (opened t p T) obs))
+    begin_keeps : (t p : ℕ) (f : Option EngineFault) → begin_fault m.limit T t p ≡ f → Kept A (Begin t p) (unless f s (Ok Accepted, state (opened t p T) obs))
     begin_keeps t p None e = let k = begin_free m.limit T t p e in (refl, began_sound m initial A obs sound t p k.0 k.1 k.2)
     begin_keeps t p (Some f) e = (refl, sound)
 
-    commit_keeps : (t : ℕ) (f : Option EngineFault) → commit_fault m.limit T t ≡ f → Kept A (Commit t) (unless f s (Accepted, committed t s))
+    commit_keeps : (t : ℕ) (f : Option EngineFault) → commit_fault m.limit T t ≡ f → Kept A (Commit t) (unless f s (Ok Accepted, committed t s))
     commit_keeps t None e = let k = commit_free m.limit T t e in (refl, joined_sound m initial A obs sound t k.0 k.1)
     commit_keeps t (Some f) e = (refl, sound)
 
@@ -77,7 +76,7 @@ module _ {S : Type 0} (m : Setting S) (lawful : Lawful m) (initial : List S) whe
           (rolled_back_sound m initial A obs sound t),
     )
 
-    aborts : (t : ℕ) (f : Option EngineFault) → absent_fault m.limit T t ≡ f → Kept A (Abort t) (unless f s (Accepted, aborted m.limit t s))
+    aborts : (t : ℕ) (f : Option EngineFault) → absent_fault m.limit T t ≡ f → Kept A (Abort t) (unless f s (Ok Accepted, aborted m.limit t s))
     aborts t None e = abort_keeps t
     aborts t (Some f) e = (refl, sound)
 
@@ -90,11 +89,11 @@ module _ {S : Type 0} (m : Setting S) (lawful : Lawful m) (initial : List S) whe
       q = record { object = x; operation = op }
 
       -- a step by what its operation is, to the account and to the object
-      abbrev KeptBy : Class → Reply × State S → Type 0
+      abbrev KeptBy : Class → Response × State S → Type 0
       KeptBy k r = (r.1.tables ≡ (stepped_by k t q r.0 A).tables) × Sound m initial (stepped_by k t q r.0 A) r.1.objects
 
       -- a refused step leaves the account
-      refused : (k : Class) (f : EngineFault) → KeptBy k (Refused f, s)
+      refused : (k : Class) (f : EngineFault) → KeptBy k (Err f, s)
       refused classes.Unknown f = (refl, sound)
       refused classes.Read f = (refl, sound)
       refused classes.Write f = (refl, sound)
@@ -106,7 +105,7 @@ module _ {S : Type 0} (m : Setting S) (lawful : Lawful m) (initial : List S) whe
             top_alike (Alike m a) ob.committed ob.versions object_sound.alike_committed object_sound.alike op
             ∙ sym (ap (class_in m.class op) there)
 
-        reads : (b : Bool) → in_conflict m.limit T t x Read ≡ b → m.class (top ob) op ≡ classes.Read → KeptBy classes.Read (cond b (Waits, state (delayed Read t x T) obs) (Answered (m.acts (top ob) op).answer, state (granted Read t x T) obs))
+        reads : (b : Bool) → in_conflict m.limit T t x Read ≡ b → m.class (top ob) op ≡ classes.Read → KeptBy classes.Read (cond b (Ok Waits, state (delayed Read t x T) obs) (Ok (Answered (m.acts (top ob) op).answer), state (granted Read t x T) obs))
         reads true e k = (refl, delayed_sound m initial A obs sound Read t q o (sym same_class ∙ k))
         reads false e k = (refl, read_sound m lawful initial A obs sound t o q a ob there here object_sound e k)
 
@@ -114,7 +113,7 @@ module _ {S : Type 0} (m : Setting S) (lawful : Lawful m) (initial : List S) whe
         updates true e = (refl, sound)
         updates false e = (refl, written_sound m lawful initial A obs sound t o q a ob there here object_sound e)
 
-        writes : (b : Bool) → in_conflict m.limit T t x Write ≡ b → m.class (top ob) op ≡ classes.Write → KeptBy classes.Write (cond b (Waits, state (delayed Write t x T) obs) (step_written s t x (update_of m.acts m.capacity t x op obs (Some ob))))
+        writes : (b : Bool) → in_conflict m.limit T t x Write ≡ b → m.class (top ob) op ≡ classes.Write → KeptBy classes.Write (cond b (Ok Waits, state (delayed Write t x T) obs) (step_written s t x (update_of m.acts m.capacity t x op obs (Some ob))))
         writes true e k = (refl, delayed_sound m initial A obs sound Write t q o (sym same_class ∙ k))
         writes false e k = updates (eqb (weight ob.versions) m.capacity) e
 
@@ -125,7 +124,7 @@ module _ {S : Type 0} (m : Setting S) (lawful : Lawful m) (initial : List S) whe
             subst
             (λ (b : Option (Object S)).
             KeptBy classes.Write
-            (cond (in_conflict m.limit T t x Write) (Waits, state (delayed Write t x T) obs)
+            (cond (in_conflict m.limit T t x Write) (Ok Waits, state (delayed Write t x T) obs)
             (step_written s t x (update_of m.acts m.capacity t x op obs b)))) (sym here)
             (writes (in_conflict m.limit T t x Write) refl e)
 
@@ -166,4 +165,4 @@ module _ {S : Type 0} (m : Setting S) (lawful : Lawful m) (initial : List S) whe
       let same : f.0 ≡ state A.tables f.0.objects = λ i. record { tables = ih.0 i; objects = f.0.objects } in
       let reply : respond m (state A.tables f.0.objects) e.call ≡ (e.reply, s) =
       ap (λ (r : State S). respond m r e.call) (sym same) ∙ sym f.2 in
-      subst (λ (r : Reply × State S). Kept A e.call r) reply (respond_keeps A f.0.objects ih.1 e.call)
+      subst (λ (r : Response × State S). Kept A e.call r) reply (respond_keeps A f.0.objects ih.1 e.call)

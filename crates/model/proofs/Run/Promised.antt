@@ -1,7 +1,8 @@
 -- What histories tell, the serial run, the questions, and that every list of calls has one end.
-use Rattle.std.proofs.Common.{◌≡◌, ℕ, suc, ◌+◌, true, List, [], ◌∷◌, length, Some, None, Option, sym, refl, ap, ◌∙◌, subst, ap₂, arith}
+use Rattle.std.proofs.Common.{◌≡◌, ℕ, suc, ◌+◌, true, List, [], ◌∷◌, length, Some, None, Option, sym, refl, ap, ◌∙◌, subst, ap₂}
 use Rattle.std.specs.Option.{option_map}
 use Rattle.std.specs.List.{slice_get}
+use Rattle.std.proofs.lemmas.Option.{slice_get-map}
 use Rattle.model.specs.declared.call.Call.{Call}
 use Rattle.model.specs.declared.lock.Wait.{Wait}
 use Rattle.model.specs.Histories.{Account, Done, History, account, kept, Follows}
@@ -12,7 +13,7 @@ use Rattle.model.specs.Stores.{Object, owned, change_count}
 use Rattle.model.specs.Tables.{Tables, is_open}
 use Rattle.model.proofs.Run.Following.{follows_sound}
 use Rattle.model.proofs.Object.Invariant.{SoundObject}
-use Rattle.model.proofs.General.Places.{Matched, matched_there, nth_map, same_places}
+use Rattle.model.proofs.General.Places.{Matched, matched_there, same_places}
 use Rattle.model.proofs.Object.Runs.{ends}
 use Rattle.model.proofs.Run.Serials.{FitsAt, serial_answers_fit, serial_states_at}
 use Rattle.model.proofs.Run.Invariant.{Lawful, Sound, WaitsWith}
@@ -83,7 +84,7 @@ module _ {S : Type 0} (m : Setting S) (lawful : Lawful m) (initial : List S) (h 
             same_places _ _
             (λ x.
             serial_states_at m.acts steps initial x
-            ∙ (leads x (slice_get initial x) (slice_get s.objects x) (sound.each x) ∙ sym (nth_map (λ ob. ob.committed) s.objects x)));
+            ∙ (leads x (slice_get initial x) (slice_get s.objects x) (sound.each x) ∙ sym (slice_get-map (λ ob. ob.committed) s.objects x)));
       }
     where
       fits : (x : ℕ) (a : Option S) → slice_get initial x ≡ a → (b : Option (Object S)) → Matched (SoundObject m A.tables A.items (A.changes x) x) a b → FitsAt m.acts x steps a
@@ -118,8 +119,8 @@ module _ {S : Type 0} (m : Setting S) (initial : List S) where
 
   one_end : (h k : History) (s r : State S) → Follows m initial h s → Follows m initial k r → calls_of h ≡ calls_of k → (h ≡ k) × (s ≡ r)
   one_end [] [] s r f g e = (refl, f ∙ sym g)
-  one_end [] (b ∷ k) s r f g e = absurd (let z : ◌≡◌ {A = ℕ} 0 1 = cc in omega arith)
-  one_end (a ∷ h) [] s r f g e = absurd (let z : ◌≡◌ {A = ℕ} 0 1 = cc in omega arith)
+  one_end [] (b ∷ k) s r f g e = absurd cc
+  one_end (a ∷ h) [] s r f g e = absurd cc
   one_end (a ∷ h) (b ∷ k) s r f g e = joined (one_end h k f.0 g.0 f.1 g.1 rest)
     where
       first : a.call ≡ b.call

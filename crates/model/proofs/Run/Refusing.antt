@@ -1,5 +1,5 @@
 -- A refused call changes nothing.
-use Rattle.std.proofs.Common.{◌≡◌, ℕ, Bool, true, false, cond, List, Some, None, Ok, Err, Option, Result, refl, arith}
+use Rattle.std.proofs.Common.{◌≡◌, ℕ, Bool, true, false, cond, List, Some, None, Ok, Err, Option, Result, refl}
 use Rattle.std.specs.List.{slice_get}
 use Rattle.kinds.specs.Outcomes.{Answer}
 use Rattle.kinds.specs.declared.answer.Class.{Class}
@@ -10,44 +10,39 @@ use Rattle.model.specs.declared.fault.EngineFault.{EngineFault}
 use Rattle.model.specs.declared.fault.StoreFault.{StoreFault}
 use Rattle.model.specs.declared.lock.Mode.TheVariants.{Read, Write}
 use Rattle.model.specs.declared.reply.Reply.{Reply}
-use Rattle.model.specs.declared.reply.Reply.TheVariants.{Accepted, Answered, Waits, Refused}
+use Rattle.model.specs.declared.reply.Reply.TheVariants.{Victim}
 use Rattle.model.specs.Deadlocks.{in_conflict}
 use Rattle.model.specs.Checks.{begin_fault, absent_fault, commit_fault}
-use Rattle.model.specs.Model.{Setting, State, respond, unless, step_at, step_by, step_written, deadlock_broken, victim}
+use Rattle.model.specs.Model.{Response, Setting, State, respond, unless, step_at, step_by, step_written, deadlock_broken, victim}
 use Rattle.model.specs.Promises.{Refusals}
 use Rattle.model.specs.Stores.{Object, top, update}
 
 module _ {S : Type 0} (s : State S) (f : EngineFault) where
   -- where a result is a refusal, it leaves the state
-  abbrev Leaves : Reply × State S → Type 0
-  Leaves r = r.0 ≡ Refused f → r.1 ≡ s
+  abbrev Leaves : Response × State S → Type 0
+  Leaves r = r.0 ≡ Err f → r.1 ≡ s
 
-  accepted : (later : State S) → Leaves (Accepted, later)
-  accepted later e = absurd (let z : ◌≡◌ {A = ℕ} 0 1 = cc in omega arith)
+  -- what is told with a reply is no refusal
+  replied : (r : Reply) (later : State S) → Leaves (Ok r, later)
+  replied r later e = cc
 
-  answered : (a : Answer) (later : State S) → Leaves (Answered a, later)
-  answered a later e = absurd (let z : ◌≡◌ {A = ℕ} 0 1 = cc in omega arith)
-
-  waits : (later : State S) → Leaves (Waits, later)
-  waits later e = absurd (let z : ◌≡◌ {A = ℕ} 0 1 = cc in omega arith)
-
-  unless_leaves : (g : Option EngineFault) (r : Reply × State S) → Leaves r → Leaves (unless g s r)
+  unless_leaves : (g : Option EngineFault) (r : Response × State S) → Leaves r → Leaves (unless g s r)
   unless_leaves None r k = k
   unless_leaves (Some g) r k = λ _. refl
 
-  either_leaves : (b : Bool) (r q : Reply × State S) → Leaves r → Leaves q → Leaves (cond b r q)
+  either_leaves : (b : Bool) (r q : Response × State S) → Leaves r → Leaves q → Leaves (cond b r q)
   either_leaves true r q k l = k
   either_leaves false r q k l = l
 
   written_leaves : (t x : ℕ) (r : Result Answer StoreFault × List (Object S)) → Leaves (step_written s t x r)
   written_leaves t x (Err g, obs) = λ _. refl
-  written_leaves t x (Ok a, obs) = answered a _
+  written_leaves t x (Ok a, obs) = replied _ _
 
   by_class_leaves : (m : Setting S) (t x : ℕ) (o : Operation) (ob : Object S) (k : Class) → Leaves (step_by m s t x o ob k)
   by_class_leaves m t x o ob classes.Unknown = λ _. refl
-  by_class_leaves m t x o ob classes.Read = either_leaves (in_conflict m.limit s.tables t x Read) _ _ (waits _) (answered _ _)
+  by_class_leaves m t x o ob classes.Read = either_leaves (in_conflict m.limit s.tables t x Read) _ _ (replied _ _) (replied _ _)
   by_class_leaves m t x o ob classes.Write =
-      either_leaves (in_conflict m.limit s.tables t x Write) _ _ (waits _)
+      either_leaves (in_conflict m.limit s.tables t x Write) _ _ (replied _ _)
       (written_leaves t x (update m.acts m.capacity t x o s.objects))
 
   at_leaves : (m : Setting S) (t x : ℕ) (o : Operation) (b : Option (Object S)) → Leaves (step_at m s t x o b)
@@ -55,13 +50,13 @@ module _ {S : Type 0} (s : State S) (f : EngineFault) where
   at_leaves m t x o (Some ob) = by_class_leaves m t x o ob (m.class (top ob) o)
 
   broken_leaves : (limit : ℕ) (v : Option ℕ) → Leaves (deadlock_broken limit s v)
-  broken_leaves limit None e = refl
-  broken_leaves limit (Some v) e = absurd (let z : ◌≡◌ {A = ℕ} 0 1 = cc in omega arith)
+  broken_leaves limit None = λ _. refl
+  broken_leaves limit (Some v) = replied (Victim (Some v)) _
 
 pub refusals : {S : Type 0} (m : Setting S) → Refusals m
 unfolding respond
-refusals m s (Begin t p) f = unless_leaves s f (begin_fault m.limit s.tables t p) _ (accepted s f _)
+refusals m s (Begin t p) f = unless_leaves s f (begin_fault m.limit s.tables t p) _ (replied s f _ _)
 refusals m s (Step t x o) f = unless_leaves s f (absent_fault m.limit s.tables t) _ (at_leaves s f m t x o (slice_get s.objects x))
-refusals m s (Commit t) f = unless_leaves s f (commit_fault m.limit s.tables t) _ (accepted s f _)
-refusals m s (Abort t) f = unless_leaves s f (absent_fault m.limit s.tables t) _ (accepted s f _)
+refusals m s (Commit t) f = unless_leaves s f (commit_fault m.limit s.tables t) _ (replied s f _ _)
+refusals m s (Abort t) f = unless_leaves s f (absent_fault m.limit s.tables t) _ (replied s f _ _)
 refusals m s BreakDeadlock f = broken_leaves s f m.limit (victim m s)

@@ -2,6 +2,7 @@
 use Rattle.std.proofs.Common.{◌≡◌, ℕ, false, cond, List, [], ◌∷◌, map, Some, None, Option, sym, refl, ap, ◌∙◌, subst, ap₂, inl, inr}
 use Rattle.std.specs.Option.{option_map}
 use Rattle.std.specs.List.{slice_get}
+use Rattle.std.proofs.lemmas.Iterator.Adapters.{option_map_id}
 use Rattle.std.proofs.lemmas.Bool.{cases_Bool, both_ways, or_parts, or_left, eq-eqb}
 use Rattle.kinds.specs.declared.answer.Outcome.{Outcome}
 use Rattle.kinds.specs.declared.operation.Operation.{Operation}
@@ -47,11 +48,7 @@ module _ {S : Type 0} (acts : S → Operation → Outcome S) where
 
   -- and lead each object where they lead it alone
   pub serial_states_at : (ds : List Done) (states : List S) (x : ℕ) → slice_get (serial_states acts states (map (λ d. d.asked) ds)) x ≡ option_map (ends acts x ds) (slice_get states x)
-  serial_states_at [] states x = same (slice_get states x)
-    where
-      same : (o : Option S) → o ≡ option_map (λ s. s) o
-      same None = refl
-      same (Some s) = refl
+  serial_states_at [] states x = sym (option_map_id (slice_get states x))
   serial_states_at (d ∷ ds) states x =
       serial_states_at ds (states_after acts d.asked states) x
       ∙ (ap (option_map (ends acts x ds)) (nth_after d states x) ∙ mapped_twice (after acts x d) (ends acts x ds) (slice_get states x))

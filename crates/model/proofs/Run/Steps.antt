@@ -1,5 +1,5 @@
 -- Answered steps keep what holds after every list of calls.
-use Rattle.std.proofs.Common.{◌≡◌, ℕ, suc, Bool, true, false, eqb, List, [], ◌∷◌, Some, None, Option, sym, refl, ap, ◌∙◌, subst, inl, inr, arith}
+use Rattle.std.proofs.Common.{◌≡◌, ℕ, suc, Bool, true, false, eqb, List, [], ◌∷◌, Some, None, Option, sym, refl, ap, ◌∙◌, subst, inl, inr}
 use Rattle.std.specs.List.{slice_get}
 use Rattle.std.proofs.lemmas.Bool.{cases_Bool, eqb-true, eqb-false, eq-eqb, ne_eqb, or_left, or_right, or_from}
 use Rattle.kinds.specs.declared.answer.Class.TheVariants as classes
@@ -79,7 +79,7 @@ module _ {S : Type 0} (m : Setting S) (lawful : Lawful m) (initial : List S) (A 
           ne_eqb x y
           (λ k.
           let gone : None ≡ Some s = sym e ∙ (ap (λ (j : ℕ). slice_get initial j) (sym k) ∙ there) in
-          let z : ◌≡◌ {A = ℕ} 0 1 = cc in omega arith)
+          cc)
 
   pub read_sound : in_conflict m.limit T t x Read ≡ false → m.class (top ob) q.operation ≡ classes.Read → Sound m initial (answered Read t q (m.acts (top ob) q.operation).answer A) obs
   read_sound free class =

@@ -1,5 +1,6 @@
 -- A commit keeps the tree and the locks: a transaction without open children ends, and its locks go to its parent.
 use Rattle.std.proofs.Common.{◌≡◌, ℕ, zero, suc, ◌<◌, Bool, true, false, ◌&&◌, ◌||◌, eqb, ltb, ◌⊎◌, sym, ◌∙◌, subst, inl, inr, arith}
+use Rattle.std.proofs.Math.Bool.{or_comm}
 use Rattle.std.proofs.lemmas.Bool.{cases_Bool, both_ways, or_cases, or_left, or_right, and_parts, and_cases, eqb-true, eqb-false, eq-eqb, ltb-true, cases_eq}
 use Rattle.model.specs.Checks.{has_child}
 use Rattle.model.specs.Numbers.{numbers}
@@ -9,9 +10,6 @@ use Rattle.model.proofs.Tree.Granting.{same_tree}
 use Rattle.model.proofs.Tree.Invariants.{Tree, Locks}
 use Rattle.model.proofs.Tree.Lines.{open_number, through_parent, parent_earlier}
 use Rattle.model.proofs.Tree.Removals.{left_true, removed_tree, Downward}
-
-or_swap : (a b : Bool) → (a || b) ≡ true → (b || a) ≡ true
-or_swap a b e = elim (or_cases a b e) [ inl f ↦ or_right b a f | inr f ↦ or_left b a f ]
 
 module _ (limit : ℕ) (T : Tables) (tree : Tree limit T) (locks : Locks T) (t : ℕ) (o : is_open T t ≡ true) (leaf : has_child limit T t ≡ false) where
   -- no open transaction has t for its parent
@@ -90,7 +88,7 @@ module _ (limit : ℕ) (T : Tables) (tree : Tree limit T) (locks : Locks T) (t :
   kin_after x w u nw nu (inl a) (inr h) =
       or_right _ _
       (subst (λ (k : ℕ). T.line k w ≡ true) (sym h.0)
-      (kin_above w nw (or_swap (T.line w t) (T.line t w) (locks.kin_only x w t a h.2))))
+      (kin_above w nw (or_comm (T.line t w) (T.line w t) ∙ locks.kin_only x w t a h.2)))
   kin_after x w u nw nu (inr a) (inl h) =
       or_left _ _ (subst (λ (k : ℕ). T.line k u ≡ true) (sym a.0) (kin_above u nu (locks.kin_only x t u a.2 h)))
   kin_after x w u nw nu (inr a) (inr h) = or_left _ _ (subst (λ (k : ℕ). T.line w k ≡ true) (a.0 ∙ sym h.0) a.1)

@@ -1,9 +1,9 @@
 -- What a tree of transactions says of lines and parents.
 use Rattle.std.proofs.Common.{◌≡◌, ℕ, ◌<◌, true, false, eqb, sym, ◌∙◌, subst, inl, inr}
 use Rattle.std.proofs.lemmas.Bool.{both_ways, or_cases, or_parts, or_right, eqb-true, ne_eqb}
-use Rattle.model.specs.Numbers.{has, numbers}
+use Rattle.model.specs.Numbers.{numbers}
 use Rattle.model.specs.Tables.{Tables, is_open}
-use Rattle.model.proofs.General.Finite.{has_numbers}
+use Rattle.model.proofs.General.Finite.{has_numbers, has}
 use Rattle.model.proofs.Tree.Invariants.{Tree}
 
 module _ (limit : ℕ) (T : Tables) (tree : Tree limit T) where
