@@ -16,7 +16,7 @@ pub(crate) fn in_range(number: u32) -> bool
 
 // Any code and any numbers: which of them a kind knows is for the kind to say. Plain numbers and no
 // enum, since what no kind knows can be called too, and must be told as unknown.
-#[derive(Clone, Copy)]
+#[derive(Clone, Copy, PartialEq, Eq, Debug)]
 pub struct Operation {
     pub code: u32,
     pub first: u32,

@@ -2,8 +2,7 @@
 use kinds::operation::Operation;
 
 // A call, with the transaction number that its caller chose.
-// Not compared or printed yet: tried, and `kinds::operation::Operation` has no such derives.
-#[derive(Clone, Copy)]
+#[derive(Clone, Copy, PartialEq, Eq, Debug)]
 pub enum Call {
     Begin {
         number: u32,

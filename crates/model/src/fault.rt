@@ -31,6 +31,7 @@ pub enum EngineFault {
     Store(StoreFault),
 }
 
+// A conversion for each layer, so that `?` passes its faults up.
 impl From<KindFault> for EngineFault {
     ghost from_gives = { λ f r. r ≡ InKind f };
 

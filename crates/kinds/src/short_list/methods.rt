@@ -41,6 +41,8 @@ fn pull_out<T: Item>(places: &mut [T], at: usize)
     rest.rotate_left(1);
 }
 
+// That a place lies in the list is asked for, as the library's `insert` and `remove` ask: it is a
+// relation of two arguments, and no fact of one that a type could hold.
 impl<T: Item> ShortList<T> {
     // The list without items.
     pub(crate) fn empty() -> ShortList<T>
