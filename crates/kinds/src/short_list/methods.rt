@@ -1,25 +1,9 @@
 // What is done to a short list.
-ghost use Rattle.std.specs.Prelude.{◌≡◌, Bool, List, ◌+◌, ◌-◌, ◌<◌, ◌≤◌, [], ◌∷◌, ◌++◌, length, take, drop, nat_le, slice_set};
+ghost use Rattle.std.specs.Prelude.{◌≡◌, ◌+◌, ◌-◌, ◌<◌, ◌≤◌, [], ◌∷◌, ◌++◌, length, take, drop, nat_le, slice_set};
 ghost use Rattle.kinds.specs.ShortLists.{room, items, packed, packs, holds, pushed, pulled};
 
+use super::item::Item;
 use super::{PLACES, ShortList};
-
-// What stands in the places of a state's row.
-pub trait Item: Copy + Eq {
-    // the value of an empty place
-    ghost blank: { Self };
-
-    // the items are a state's
-    ghost good: { List Self → Bool };
-
-    // The value of an empty place.
-    fn blank() -> Self
-        ensures { result ≡ blank };
-
-    // Whether the items are a state's.
-    fn are_good(items: &[Self]) -> bool
-        ensures { result ≡ good items.now };
-}
 
 // Puts an item at a place; those from there on move up by one, and the last is lost.
 fn push_in<T: Copy>(places: &mut [T], at: usize, item: T)

@@ -1,7 +1,8 @@
 // Lists of up to twelve items as plain data: how queues and rolls lie in a row.
+mod item;
 mod methods;
 
-pub(crate) use methods::Item;
+pub(crate) use item::Item;
 
 // How many items there can be.
 pub const PLACES: usize = 12;
