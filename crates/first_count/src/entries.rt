@@ -12,6 +12,7 @@ use kinds::queue::{FRONT, NEXT, PUT, Queue};
 use kinds::roll::{FIND, MARK, Roll};
 use kinds::tally::{ADD, SHOW, TAKE, Tally};
 
+// The numbers of the objects, as entries and printed lines have them.
 const FIRST: usize = 0;
 
 const SECOND: usize = 1;
@@ -20,7 +21,8 @@ const QUEUE: usize = 2;
 
 const ROLL: usize = 3;
 
-// Two tallies in hundredths of a vote, the queue of doubtful bundles and the roll of members who voted.
+// Two tallies in hundredths of a vote, the queue of doubtful bundles and the roll of members who
+// voted.
 #[tactic(auto, unfolding(kinds::specs::Rows::checked))]
 pub(crate) fn opening() -> [Object; 4]
     ensures { map held result ≡ opened }
@@ -55,8 +57,9 @@ fn entered(object: usize, operation: Operation, then: Then) -> Entry
     }
 }
 
-// One bundle of papers: votes credited and corrected, a correction that is refused, doubtful bundles
-// put by and taken up, members marked, two marks undone, and a word that the object does not know.
+// One bundle of papers: votes credited and corrected, a correction that is refused, doubtful
+// bundles put by and taken up, members marked, two marks undone, and a word that the object does
+// not know.
 pub(crate) fn entries() -> [Entry; 19] {
     [
         entered(FIRST, operation(ADD, 2_500, 0), Keep),

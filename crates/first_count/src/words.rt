@@ -25,7 +25,7 @@ pub struct Closing {
     pub object: Object,
 }
 
-// A value of another crate, in words.
+// A value whose type is from elsewhere, in words.
 #[derive(Clone, Copy)]
 struct Words<T>(T);
 
