@@ -1,59 +1,83 @@
 // One operation entered on one object, and undone again where that is asked.
-ghost use Rattle.std.specs.Prelude.{◌≡◌, ◌<◌, ◌≤◌, length, slice_index_or, slice_set};
-ghost use Rattle.first_count.specs.Entering.{reply_of, state_after};
-ghost use Rattle.first_count.specs.declared.enter.Reply.TheVariants.{Missing};
+ghost use Rattle.std.specs.Prelude.{◌≡◌, slice_get, MatchResult};
+ghost use Rattle.first_count.specs.Entering.{reply_of, state_after, told, objects_after};
 
 use kinds::answer::{Answer, Class};
 use kinds::kind::Kind;
 use kinds::operation::Operation;
+use std::error::Error;
+use std::fmt;
 
-// An operation on the object of a number, and whether it is undone right after.
+// What becomes of an operation right after it was done.
+#[derive(Clone, Copy, PartialEq, Eq, Debug)]
+pub enum Then {
+    Keep,
+    Undo,
+}
+
+// An operation on the object of a number.
 #[derive(Clone, Copy)]
 pub struct Entry {
     pub object: usize,
     pub operation: Operation,
-    pub undo: bool,
+    pub then: Then,
 }
 
-// What comes of an entry.
-#[derive(Clone, Copy)]
+// What an object replies to an entry.
+#[derive(Clone, Copy, PartialEq, Eq, Debug)]
 pub enum Reply {
-    Missing,
-    Unknown,
     Answered(Answer),
     Undone(Answer),
 }
 
-// What an object replies to an entry, and its state after.
-fn perform<K: Kind>(state: K, entry: Entry) -> (Reply, K)
-    ensures reply { result.0 ≡ reply_of (K.classed state «entry».operation) «entry».undo (K.acts state «entry».operation).answer }
-    ensures next { result.1 ≡ state_after «entry».undo state (K.acts state «entry».operation) }
-{
-    let operation = entry.operation;
-    let done = state.act(operation);
-    match state.class(operation) {
-        Class::Unknown => (Reply::Unknown, state),
-        Class::Read => (Reply::Answered(done.answer), state),
-        Class::Write => {
-            if !entry.undo {
-                return (Reply::Answered(done.answer), done.next);
-            }
-            let record = state.undo_record(operation);
-            (Reply::Undone(done.answer), done.next.undo(record))
+// Why an entry changes nothing.
+#[derive(Clone, Copy, PartialEq, Eq, Debug)]
+pub enum Refusal {
+    NoObject,
+    Unknown,
+}
+
+impl fmt::Display for Refusal {
+    fn fmt<W: fmt::Write>(&self, f: &mut fmt::Formatter<W>) -> fmt::Result {
+        match self {
+            Refusal::NoObject => write!(f, "no such object"),
+            Refusal::Unknown => write!(f, "unknown"),
         }
     }
 }
 
-// An entry on one of some objects; the others stay.
-pub(crate) fn enter<K: Kind>(objects: &mut [K], entry: Entry) -> Reply
-    ensures missing { length objects.old ≤ «entry».object → (result ≡ Missing) × (objects.new ≡ objects.old) }
-    ensures there { (k : K) → «entry».object < length objects.old → k ≡ slice_index_or objects.old «entry».object k → (result ≡ reply_of (K.classed k «entry».operation) «entry».undo (K.acts k «entry».operation).answer) × (objects.new ≡ slice_set objects.old «entry».object (state_after «entry».undo k (K.acts k «entry».operation))) }
+impl Error for Refusal {}
+
+// What an object replies to an entry, and its state after.
+fn perform<K: Kind>(state: K, entry: Entry) -> Result<(Reply, K), Refusal>
+    ensures reply { let class = K.classed state «entry».operation in
+        let told = reply_of class «entry».then (K.acts state «entry».operation).answer in
+        MatchResult result (λ done. told ≡ Ok done.0) (λ refusal. told ≡ Err refusal) }
+    ensures after { let next = state_after «entry».then state (K.acts state «entry».operation) in
+        MatchResult result (λ done. next ≡ done.1) (λ _. next ≡ state) }
+{
+    let operation = entry.operation;
+    let done = state.act(operation);
+    match state.class(operation) {
+        Class::Unknown => Err(Refusal::Unknown),
+        Class::Write if entry.then == Then::Undo => {
+            let record = state.undo_record(operation);
+            Ok((Reply::Undone(done.answer), done.next.undo(record)))
+        }
+        Class::Read | Class::Write => Ok((Reply::Answered(done.answer), done.next)),
+    }
+}
+
+// An entry on one of some objects; the others stay, and where it is refused all do.
+#[tactic(auto, using(std::proofs::lemmas::Option::slice_get_read, crate::proofs::Lists::written_back))]
+pub(crate) fn enter<K: Kind>(objects: &mut [K], entry: Entry) -> Result<Reply, Refusal>
+    ensures reply { result ≡ told K.classed K.acts «entry» (slice_get objects.old «entry».object) }
+    ensures after { let object = slice_get objects.old «entry».object in
+        objects.new ≡ objects_after K.acts «entry» object objects.old }
 {
     let at = entry.object;
-    if at >= objects.len() {
-        return Reply::Missing;
-    }
-    let (reply, next) = perform(objects[at], entry);
+    let object = *objects.get(at).ok_or(Refusal::NoObject)?;
+    let (reply, next) = perform(object, entry)?;
     objects[at] = next;
-    reply
+    Ok(reply)
 }

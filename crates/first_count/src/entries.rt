@@ -1,8 +1,10 @@
 // The objects of the count, and what is entered on them.
-ghost use Rattle.std.specs.Prelude.{◌≡◌, true, false};
+ghost use Rattle.std.specs.Prelude.{◌≡◌, map};
 ghost use Rattle.first_count.specs.Entering.{entry_of};
+ghost use Rattle.first_count.specs.Opening.{held, opened};
 
-use crate::enter::Entry;
+use crate::enter::Then::{Keep, Undo};
+use crate::enter::{Entry, Then};
 use either::Either;
 use kinds::join::Object;
 use kinds::operation::Operation;
@@ -10,6 +12,7 @@ use kinds::queue::{FRONT, NEXT, PUT, Queue};
 use kinds::roll::{FIND, MARK, Roll};
 use kinds::tally::{ADD, SHOW, TAKE, Tally};
 
+// The numbers of the objects, as entries and printed lines have them.
 const FIRST: usize = 0;
 
 const SECOND: usize = 1;
@@ -18,70 +21,65 @@ const QUEUE: usize = 2;
 
 const ROLL: usize = 3;
 
-// Two tallies in hundredths of a vote, the queue of doubtful bundles and the roll of members who voted.
-pub(crate) fn opening() -> Option<[Object; 4]> {
-    let first = Tally::new(120_000)?;
-    let second = Tally::new(0)?;
-    Some([
-        Either::Left(first),
-        Either::Left(second),
+// Two tallies in hundredths of a vote, the queue of doubtful bundles and the roll of members who
+// voted.
+#[tactic(auto, unfolding(kinds::specs::Rows::checked))]
+pub(crate) fn opening() -> [Object; 4]
+    ensures { map held result ≡ opened }
+{
+    [
+        Either::Left(Tally::new(120_000).unwrap()),
+        Either::Left(Tally::new(0).unwrap()),
         Either::Right(Either::Left(Queue::new())),
         Either::Right(Either::Right(Roll::new())),
-    ])
+    ]
+}
+
+// An operation by its code and its numbers.
+fn operation(code: u32, first: u32, second: u32) -> Operation
+    ensures { result ≡ record { code = code; first = first; second = second } }
+{
+    Operation {
+        code,
+        first,
+        second,
+    }
 }
 
 // An operation entered on an object.
-fn entered(object: usize, code: u32, first: u32, second: u32) -> Entry
-    ensures { result ≡ entry_of object code first second false }
+fn entered(object: usize, operation: Operation, then: Then) -> Entry
+    ensures { result ≡ entry_of object operation then }
 {
     Entry {
         object,
-        operation: Operation {
-            code,
-            first,
-            second,
-        },
-        undo: false,
+        operation,
+        then,
     }
 }
 
-// The same, undone right after.
-fn entered_and_undone(object: usize, code: u32, first: u32, second: u32) -> Entry
-    ensures { result ≡ entry_of object code first second true }
-{
-    Entry {
-        object,
-        operation: Operation {
-            code,
-            first,
-            second,
-        },
-        undo: true,
-    }
-}
-
-// One bundle of papers: votes credited and corrected, a correction that is refused, doubtful bundles
-// put by and taken up, members marked, two marks undone, and a word that the object does not know.
+// One bundle of papers: votes credited and corrected, a correction that is refused, doubtful
+// bundles put by and taken up, members marked, two marks undone, and a word that the object does
+// not know.
 pub(crate) fn entries() -> [Entry; 19] {
     [
-        entered(FIRST, ADD, 2_500, 0),
-        entered(SECOND, ADD, 1_900, 0),
-        entered(FIRST, TAKE, 100, 0),
-        entered(SECOND, ADD, 100, 0),
-        entered(SECOND, TAKE, 5_000, 0),
-        entered(SECOND, SHOW, 0, 0),
-        entered(QUEUE, PUT, 17, 0),
-        entered(QUEUE, PUT, 23, 0),
-        entered(QUEUE, FRONT, 0, 0),
-        entered(QUEUE, NEXT, 0, 0),
-        entered(ROLL, MARK, 118, 1),
-        entered(ROLL, MARK, 42, 1),
-        entered(ROLL, MARK, 118, 2),
-        entered(ROLL, FIND, 118, 0),
-        entered_and_undone(ROLL, MARK, 77, 1),
-        entered(ROLL, FIND, 77, 0),
-        entered_and_undone(ROLL, MARK, 42, 9),
-        entered(ROLL, FIND, 42, 0),
-        entered(QUEUE, ADD, 50, 0),
+        entered(FIRST, operation(ADD, 2_500, 0), Keep),
+        entered(SECOND, operation(ADD, 1_900, 0), Keep),
+        entered(FIRST, operation(TAKE, 100, 0), Keep),
+        entered(SECOND, operation(ADD, 100, 0), Keep),
+        entered(SECOND, operation(TAKE, 5_000, 0), Keep),
+        entered(SECOND, operation(SHOW, 0, 0), Keep),
+        entered(QUEUE, operation(PUT, 17, 0), Keep),
+        entered(QUEUE, operation(PUT, 23, 0), Keep),
+        entered(QUEUE, operation(FRONT, 0, 0), Keep),
+        entered(QUEUE, operation(NEXT, 0, 0), Keep),
+        entered(ROLL, operation(MARK, 118, 1), Keep),
+        entered(ROLL, operation(MARK, 42, 1), Keep),
+        entered(ROLL, operation(MARK, 118, 2), Keep),
+        entered(ROLL, operation(FIND, 118, 0), Keep),
+        entered(ROLL, operation(MARK, 77, 1), Undo),
+        entered(ROLL, operation(FIND, 77, 0), Keep),
+        entered(ROLL, operation(MARK, 42, 9), Undo),
+        entered(ROLL, operation(FIND, 42, 0), Keep),
+        entered(QUEUE, operation(ADD, 50, 0), Keep),
     ]
 }

@@ -5,26 +5,20 @@ mod enter;
 mod entries;
 mod words;
 
-use anyhow::anyhow;
 use enter::enter;
 use entries::{entries, opening};
 use words::{Closing, Line};
 
 fn run(rt: &HostRuntime) -> anyhow::Result<()> {
-    let Some(mut objects) = opening() else {
-        return Err(anyhow!("an opening value is out of range"));
-    };
-    let all = entries();
-    for entry in all.iter() {
-        let reply = enter(&mut objects, *entry);
-        rt.println(Line {
-            entry: *entry,
-            reply,
-        })?;
+    let mut objects = opening();
+    for entry in entries() {
+        let reply = enter(&mut objects, entry);
+        let line = Line { entry, reply };
+        println!(rt; "{line}")?;
     }
-    for number in 0..objects.len() {
-        let object = objects[number];
-        rt.println(Closing { number, object })?;
+    for (number, object) in objects.into_iter().enumerate() {
+        let closing = Closing { number, object };
+        println!(rt; "{closing}")?;
     }
     Ok(())
 }

@@ -1,6 +1,6 @@
 // The edges of each kind: operations in order, with the answers that they must get.
-use kinds::answer::{Answer, Class};
 use either::Either;
+use kinds::answer::{Answer, Class};
 use kinds::join::Object;
 use kinds::kind::Kind;
 use kinds::operation::{LARGEST, Operation};
@@ -8,7 +8,6 @@ use kinds::queue::{FRONT, NEXT, PUT, Queue};
 use kinds::roll::{FIND, MARK, Roll};
 use kinds::tally::{ADD, SHOW, TAKE, Tally};
 use std::process::Abort;
-use std::test::Fail;
 
 // An operation, and its answer; none where the object must not know it.
 #[derive(Clone, Copy)]
@@ -17,79 +16,62 @@ struct Case {
     expected: Option<Answer>,
 }
 
-fn yes(code: u32, first: u32, second: u32, number: u32) -> Case {
-    let operation = Operation {
-        code,
-        first,
-        second,
-    };
-    let expected = Some(Some(number));
-    Case {
-        operation,
-        expected,
+impl Case {
+    fn new(code: u32, first: u32, second: u32, expected: Option<Answer>) -> Case {
+        let operation = Operation {
+            code,
+            first,
+            second,
+        };
+        Case {
+            operation,
+            expected,
+        }
     }
+}
+
+fn yes(code: u32, first: u32, second: u32, number: u32) -> Case {
+    Case::new(code, first, second, Some(Some(number)))
 }
 
 fn no(code: u32, first: u32, second: u32) -> Case {
-    let operation = Operation {
-        code,
-        first,
-        second,
-    };
-    let expected = Some(None);
-    Case {
-        operation,
-        expected,
-    }
+    Case::new(code, first, second, Some(None))
 }
 
 fn unknown(code: u32, first: u32, second: u32) -> Case {
-    let operation = Operation {
-        code,
-        first,
-        second,
-    };
-    let expected = None;
-    Case {
-        operation,
-        expected,
-    }
+    Case::new(code, first, second, None)
 }
 
 // One case. A write is done, undone and done again, so that an undo that does not restore shows later on.
-fn perform<K: Kind>(rt: &impl Abort, state: K, case: Case) -> Result<K, Fail> {
+fn perform<K: Kind>(rt: &impl Abort, state: K, case: Case) -> K {
     let operation = case.operation;
     let class = state.class(operation);
     let Some(expected) = case.expected else {
-        assert!(rt; matches!(class, Class::Unknown), "must be unknown");
-        return Ok(state);
+        assert_eq!(rt; class, Class::Unknown, "must be unknown");
+        return state;
     };
-    assert!(rt; !matches!(class, Class::Unknown), "must be known");
+    assert_ne!(rt; class, Class::Unknown, "must be known");
     let done = state.act(operation);
     assert_eq!(rt; done.answer, expected);
-    if matches!(class, Class::Read) {
-        return Ok(done.next);
+    if class == Class::Read {
+        return done.next;
     }
     let back = done.next.undo(state.undo_record(operation));
     let again = back.act(operation);
     assert_eq!(rt; again.answer, expected, "after an undo");
-    Ok(again.next)
+    again.next
 }
 
-fn drive<K: Kind>(rt: &impl Abort, start: K, cases: &[Case]) -> Result<K, Fail> {
-    let mut state = start;
-    for case in cases {
-        state = perform(rt, state, *case)?;
-    }
-    Ok(state)
+fn drive<K: Kind>(rt: &impl Abort, start: K, cases: &[Case]) -> K {
+    cases
+        .iter()
+        .fold(start, |state, case| perform(rt, state, *case))
 }
 
 #[test]
-fn tally_from_0_to_the_largest(rt: HostRuntime) -> Result<(), Fail> {
+fn tally_from_0_to_the_largest(rt: HostRuntime) {
     assert!(rt; Tally::new(LARGEST + 1).is_none());
-    let Some(start) = Tally::new(LARGEST - 1) else {
-        return Err(Fail::new("in range"));
-    };
+    let start = Tally::new(LARGEST - 1).expect(&rt, "in range");
     let end = drive(
         &rt,
         start,
@@ -109,14 +91,13 @@ fn tally_from_0_to_the_largest(rt: HostRuntime) -> Result<(), Fail> {
             unknown(4, 0, 0),
             yes(ADD, LARGEST, 0, LARGEST),
         ],
-    )?;
+    );
     assert_eq!(rt; end.row(), LARGEST);
-    Ok(())
 }
 
 #[test]
-fn queue_from_0_to_12_entries(rt: HostRuntime) -> Result<(), Fail> {
-    let empty = drive(
+fn queue_from_0_to_12_entries(rt: HostRuntime) {
+    let mut queue = drive(
         &rt,
         Queue::new(),
         &[
@@ -125,12 +106,11 @@ fn queue_from_0_to_12_entries(rt: HostRuntime) -> Result<(), Fail> {
             unknown(PUT, 1, 1),
             unknown(NEXT, 1, 0),
         ],
-    )?;
-    let mut queue = empty;
+    );
     for n in 0..12 {
-        queue = perform(&rt, queue, yes(PUT, LARGEST - n, 0, n + 1))?;
+        queue = perform(&rt, queue, yes(PUT, LARGEST - n, 0, n + 1));
     }
-    let full = drive(
+    let mut rest = drive(
         &rt,
         queue,
         &[
@@ -140,22 +120,20 @@ fn queue_from_0_to_12_entries(rt: HostRuntime) -> Result<(), Fail> {
             yes(PUT, 0, 0, 12),
             no(PUT, 0, 0),
         ],
-    )?;
-    let mut rest = full;
+    );
     for n in 1..12 {
-        rest = perform(&rt, rest, yes(NEXT, 0, 0, LARGEST - n))?;
+        rest = perform(&rt, rest, yes(NEXT, 0, 0, LARGEST - n));
     }
     let end = drive(
         &rt,
         rest,
         &[yes(NEXT, 0, 0, 0), no(NEXT, 0, 0), yes(PUT, 7, 0, 1)],
-    )?;
+    );
     assert_eq!(rt; end.row().count, 1);
-    Ok(())
 }
 
 #[test]
-fn roll_from_0_to_12_keys(rt: HostRuntime) -> Result<(), Fail> {
+fn roll_from_0_to_12_keys(rt: HostRuntime) {
     let mut roll = drive(
         &rt,
         Roll::new(),
@@ -170,9 +148,9 @@ fn roll_from_0_to_12_keys(rt: HostRuntime) -> Result<(), Fail> {
             unknown(MARK, LARGEST + 1, 0),
             unknown(MARK, 0, LARGEST + 1),
         ],
-    )?;
+    );
     for n in 1..11 {
-        roll = perform(&rt, roll, yes(MARK, 100 - n, n, 0))?;
+        roll = perform(&rt, roll, yes(MARK, 100 - n, n, 0));
     }
     let full = drive(
         &rt,
@@ -185,24 +163,20 @@ fn roll_from_0_to_12_keys(rt: HostRuntime) -> Result<(), Fail> {
             yes(FIND, 90, 0, 10),
             no(MARK, 1, 1),
         ],
-    )?;
+    );
     let row = full.row();
     assert_eq!(rt; row.count, 12);
     assert_eq!(rt; row.places[0].key, 0);
     assert_eq!(rt; row.places[1].key, 90);
     assert_eq!(rt; row.places[11].key, LARGEST);
-    Ok(())
 }
 
 #[test]
-fn joined_objects_know_their_own_words(rt: HostRuntime) -> Result<(), Fail> {
-    let Some(five) = Tally::new(5) else {
-        return Err(Fail::new("in range"));
-    };
-    let tally: Object = Either::Left(five);
+fn joined_objects_know_their_own_words(rt: HostRuntime) {
+    let tally: Object = Either::Left(Tally::new(5).expect(&rt, "in range"));
     let queue: Object = Either::Right(Either::Left(Queue::new()));
     let roll: Object = Either::Right(Either::Right(Roll::new()));
-    let _ = drive(
+    drive(
         &rt,
         tally,
         &[
@@ -211,8 +185,8 @@ fn joined_objects_know_their_own_words(rt: HostRuntime) -> Result<(), Fail> {
             unknown(FIND, 1, 0),
             yes(SHOW, 0, 0, 10),
         ],
-    )?;
-    let _ = drive(
+    );
+    drive(
         &rt,
         queue,
         &[
@@ -221,8 +195,8 @@ fn joined_objects_know_their_own_words(rt: HostRuntime) -> Result<(), Fail> {
             unknown(MARK, 1, 1),
             yes(FRONT, 0, 0, 5),
         ],
-    )?;
-    let _ = drive(
+    );
+    drive(
         &rt,
         roll,
         &[
@@ -231,6 +205,5 @@ fn joined_objects_know_their_own_words(rt: HostRuntime) -> Result<(), Fail> {
             unknown(NEXT, 0, 0),
             yes(FIND, 5, 0, 6),
         ],
-    )?;
-    Ok(())
+    );
 }
