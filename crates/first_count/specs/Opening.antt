@@ -8,6 +8,7 @@ use Rattle.either.specs.declared.Either.{Either}
 use Rattle.either.specs.declared.Either.TheVariants.{Left, Right}
 use Rattle.kinds.specs.Queues.{entries}
 use Rattle.kinds.specs.Rolls.{marks}
+use Rattle.kinds.specs.Tallies.{value_of}
 use Rattle.kinds.specs.declared.tally.state.Tally.{Tally}
 use Rattle.kinds.specs.declared.queue.state.Queue.{Queue}
 use Rattle.kinds.specs.declared.roll.state.Roll.{Roll}
@@ -19,7 +20,7 @@ Held = Either ℕ (Either (List ℕ) (List Entry))
 
 -- what an object holds
 abbrev pub held : Either Tally (Either Queue Roll) → Held
-held (Left t) = Left t.value
+held (Left t) = Left (value_of t)
 held (Right (Left q)) = Right (Left (entries q))
 held (Right (Right r)) = Right (Right (marks r))
 
