@@ -35,7 +35,7 @@ pub(crate) fn opening() -> [Object; 4]
     ]
 }
 
-// An operation by its code and its numbers.
+// An operation by its code and its numbers, which are plainest in a table as they are.
 fn operation(code: u32, first: u32, second: u32) -> Operation
     ensures { result ≡ record { code = code; first = first; second = second } }
 {

@@ -5,7 +5,8 @@ ghost use Rattle.kinds.specs.Outcomes.{yes_to, no_to};
 // An operation's answer: `Some` is yes with a number, `None` is no.
 pub type Answer = Option<u32>;
 
-// What an operation is to an object.
+// What an operation is to an object. Three words, and no `Option` of read or write: unknown is a
+// class of its own in the rules, and `None` would hide its name.
 #[derive(Clone, Copy, PartialEq, Eq, Debug)]
 pub enum Class {
     Unknown,

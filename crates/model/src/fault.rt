@@ -49,7 +49,7 @@ impl From<StoreFault> for EngineFault {
 }
 
 impl EngineFault {
-    // The number by which the fault is told.
+    // The number by which the fault is told. Not by `From`: `u32::from(fault)` says no plainer which.
     pub fn number(self) -> u32
         ensures { result ≡ engine_number self }
     {

@@ -30,6 +30,7 @@ impl Case {
     }
 }
 
+// A row of a table has the code and the numbers as they are: an `Operation` in each is no plainer.
 fn yes(code: u32, first: u32, second: u32, number: u32) -> Case {
     Case::new(code, first, second, Some(Some(number)))
 }
