@@ -7,10 +7,6 @@ pub returns-in_default : goal.returns-in_default
 returns-in_default c =
     c.no.ensures ∙ sym (next_none c.args.self (front_none_is (entries c.args.self) c.in_default.ensures.value))
 
-pub invariant_of-yes : goal.invariant_of-yes
-invariant_of-yes c =
-    record { sound = (entry_out c.args.self c.without_item-row.result 0 c.in-Some.ensures.bound c.without_item-row.ensures.count c.without_item-row.ensures.places).0 }
-
 pub returns : goal.returns
 returns c =
     let q = c.args.self in
