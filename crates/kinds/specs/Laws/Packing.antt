@@ -92,10 +92,6 @@ module _ {T : Type 0} (b : T) where
       e ∙ ap (λ (o : ShortList T). slice_set o.places at x) h ∙ padded_set at room x (items l) (omega arith) (omega arith) in
       λ i. record { count = same i; places = q i }
 
--- where there are twelve places and no more items, the places past them decide
-pub packs_is : {T : Type 0} (blank : T → Bool) (l : ShortList T) → l.count ≤ room → length l.places ≡ room → packs blank l ≡ list_all blank (drop l.count l.places)
-packs_is blank l few n = rw (le-leb l.count room few, eq-eqb (length l.places) room n)
-
 module _ {T : Type 0} (blank : T → Bool) (b : T) (only : (x : T) → blank x ≡ true → x ≡ b) (is_b : blank b ≡ true) where
   -- blanks past the items are what padding puts there
   repadded : (n k : ℕ) (ps : List T) → length ps ≡ n → k ≤ n → list_all blank (drop k ps) ≡ true → ps ≡ padded n b (take k ps)

@@ -11,10 +11,10 @@ use Rattle.kinds.specs.declared.number.value.Number.{Number}
 use Rattle.kinds.specs.declared.queue.state.Queue.{Queue}
 use Rattle.kinds.specs.QueueRows.{blank_number, is_queue}
 use Rattle.kinds.specs.Operations.{ranged}
-use Rattle.kinds.specs.Queues.{entries, front_of, entries_after, entries_before, end_move, read_queue, queue_of}
+use Rattle.kinds.specs.Queues.{entries, front_of, entries_after, entries_before, read_queue, queue_of}
 use Rattle.kinds.specs.ShortLists.{room, items, packed, pushed, pulled}
 use Rattle.kinds.specs.declared.queue.operation.QueueOperation.TheVariants.{Front, Put, Next}
-use Rattle.kinds.specs.declared.queue.operation.EndMove.TheVariants.{Stayed, BackJoined, FrontLeft}
+use Rattle.kinds.specs.declared.queue.operation.EndMove.TheVariants.{BackJoined, FrontLeft}
 use Rattle.kinds.specs.Laws.Alls.{all_inserted, all_removed}
 use Rattle.kinds.specs.Laws.Checks.{checked_passes, checked_fails, checked_made}
 use Rattle.kinds.specs.Laws.Packing as packing
@@ -122,12 +122,6 @@ next_none q e = ap (λ (es : List ℕ). left_by queue_of q (entries_after es Nex
 pub next_some : (q p : Queue) (x : ℕ) (xs : List ℕ) → entries q ≡ x ∷ xs → entries p ≡ remove (entries q) 0 → left_by queue_of q (entries_after (entries q) Next) ≡ yes_to x p
 next_some q p x xs e f =
     ap (λ (es : List ℕ). left_by queue_of q (entries_after es Next)) e ∙ left_own q p (Some x) xs (f ∙ ap (λ (es : List ℕ). remove es 0) e)
-
-pub move_none : (q : Queue) → entries q ≡ [] → Stayed ≡ end_move (entries q) (Some Next)
-move_none q e = sym (ap (λ (es : List ℕ). end_move es (Some Next)) e)
-
-pub move_some : (q : Queue) (x : ℕ) (xs : List ℕ) → entries q ≡ x ∷ xs → FrontLeft x ≡ end_move (entries q) (Some Next)
-move_some q x xs e = sym (ap (λ (es : List ℕ). end_move es (Some Next)) e)
 
 -- a queue turned into the one of its own entries, or of another's
 pub turned_stays : (q : Queue) → q ≡ turned queue_of q (entries q)

@@ -1,5 +1,6 @@
 // What is done to a short list.
 ghost use Rattle.std.specs.Prelude.{◌≡◌, ◌+◌, ◌-◌, ◌<◌, ◌≤◌, [], ◌∷◌, ◌++◌, length, take, drop, nat_le, slice_set};
+ghost use Rattle.std.specs.List.{list_all};
 ghost use Rattle.kinds.specs.ShortLists.{room, items, packed, packs, holds, pushed, pulled};
 
 use super::item::Item;
@@ -25,6 +26,13 @@ fn pull_out<T: Item>(places: &mut [T], at: usize)
     rest.rotate_left(1);
 }
 
+// Whether each place is empty.
+fn are_blank<T: Item>(places: &[T]) -> bool
+    ensures { result ≡ list_all (λ x. T.eq x T.blank) places.now }
+{
+    places.iter().all(|place| *place == T::blank())
+}
+
 // That a place lies in the list is asked for, as the library's `insert` and `remove` ask: it is a
 // relation of two arguments, and no fact of one that a type could hold.
 impl<T: Item> ShortList<T> {
@@ -42,10 +50,7 @@ impl<T: Item> ShortList<T> {
     fn is_packed(&self) -> bool
         ensures { result ≡ packs (λ x. T.eq x T.blank) self.now }
     {
-        let Some(past) = self.places.get(self.count..) else {
-            return false;
-        };
-        past.iter().all(|place| *place == T::blank())
+        self.places.get(self.count..).is_some_and(are_blank)
     }
 
     // The items of a list.

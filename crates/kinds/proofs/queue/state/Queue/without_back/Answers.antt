@@ -5,11 +5,6 @@ use Rattle.kinds.proofs.queue.state.Queue.without_back.Goals as goal
 pub returns-in_default : goal.returns-in_default
 returns-in_default c = back_none c.args.self (no_entries c.args.self (omega (arith, c.in_default.ensures)))
 
-pub invariant_of-result : goal.invariant_of-result
-invariant_of-result c =
-    let row = c.without_item-row in
-    record { sound = (entry_out c.args.self row.result c.in-Some.last (omega (arith, c.in-Some.ensures)) row.ensures.count row.ensures.places).0 }
-
 pub returns : goal.returns
 returns c =
     let row = c.without_item-row in
