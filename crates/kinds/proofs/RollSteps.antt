@@ -24,12 +24,12 @@ mark_at r at d h = sym (get_or-take r.row.count r.row.places at d h)
 
 -- what a place says of its key
 ok_some : (o : Option ℕ) (at n : ℕ) → Ok at ≡ placed o n → (v : ℕ) × (o ≡ Some v) × (at ≡ n)
-ok_some None at n e = absurd (let z : ◌≡◌ {A = ℕ} 0 1 = cc in omega arith)
+ok_some None at n e = cc
 ok_some (Some v) at n e = (v, refl, cc)
 
 err_none : (o : Option ℕ) (at n : ℕ) → Err at ≡ placed o n → (o ≡ None) × (at ≡ n)
 err_none None at n e = (refl, cc)
-err_none (Some v) at n e = absurd (let z : ◌≡◌ {A = ℕ} 0 1 = cc in omega arith)
+err_none (Some v) at n e = cc
 
 -- the number at a key's place is the key's
 pub number_at : (r : Roll) (k at : ℕ) (d : Entry) → at < r.row.count → Ok at ≡ place_of k (marks r) → Some (get_or r.row.places at d).number ≡ found k (marks r)

@@ -23,4 +23,4 @@ above_largest v e = checked_fails ranged (λ v e. record { value = v; in_range =
 pub no_number : (v : ℕ) → None ≡ number_at v → ranged v ≡ true → ⊥
 no_number v e h =
     let both : ◌≡◌ {A = Option Number} None (Some (record { value = v; in_range = h })) = e ∙ checked_passes ranged (λ v e. record { value = v; in_range = e }) v h in
-    let z : ◌≡◌ {A = ℕ} 0 1 = cc in omega arith
+    cc

@@ -24,7 +24,7 @@ no_keeps [] Front e = refl
 no_keeps (x ∷ xs) Front e = refl
 no_keeps xs (Put n) e = grind (arith, nat_tests)
 no_keeps [] Next e = refl
-no_keeps (x ∷ xs) Next e = absurd (let z : ◌≡◌ {A = ℕ} 0 1 = cc in omega arith)
+no_keeps (x ∷ xs) Next e = cc
 
 pub no_leaves_state : (q : Queue) (p : Option QueueOperation) → (by_table queue_of (entries_after (entries q)) q p).answer ≡ None → (by_table queue_of (entries_after (entries q)) q p).next ≡ q
 no_leaves_state q p e = tables.no_leaves queue_of entries queue_own (entries_after (entries q)) q p (no_keeps (entries q)) e
@@ -37,8 +37,8 @@ front_keeps (x ∷ xs) = refl
 pub read_leaves_state : (q : Queue) (p : Option QueueOperation) → queue_class p ≡ Read → (by_table queue_of (entries_after (entries q)) q p).next ≡ q
 read_leaves_state q None e = refl
 read_leaves_state q (Some Front) e = tables.turned_own queue_of entries queue_own q q _ (sym (front_keeps (entries q)))
-read_leaves_state q (Some (Put n)) e = absurd (let z : ◌≡◌ {A = ℕ} 0 1 = cc in omega arith)
-read_leaves_state q (Some Next) e = absurd (let z : ◌≡◌ {A = ℕ} 0 1 = cc in omega arith)
+read_leaves_state q (Some (Put n)) e = cc
+read_leaves_state q (Some Next) e = cc
 
 all_push : (xs : List ℕ) (n : ℕ) → list_all ranged xs ≡ true → ranged n ≡ true → list_all ranged (xs ++ n ∷ []) ≡ true
 all_push xs n e f = list_all-append ranged xs (n ∷ []) ∙ and_from (list_all ranged xs) _ e (and_from (ranged n) true f refl)
@@ -77,7 +77,7 @@ after_made q p =
     queue_made (entries_after (entries q) p).1 (after_few (entries q) p (omega (arith, entries_length q, h.0))) (after_ranged (entries q) p h.2)
 
 pub undo_leads_back : (q : Queue) (p : Option QueueOperation) → queue_class p ≡ Write → let u = (by_table queue_of (entries_after (entries q)) q p).next in turned queue_of u (entries_before (entries u) (end_move (entries q) p)) ≡ q
-undo_leads_back q None e = absurd (let z : ◌≡◌ {A = ℕ} 0 1 = cc in omega arith)
+undo_leads_back q None e = cc
 undo_leads_back q (Some p) e =
     let made = after_made q p in
     tables.undo_returns queue_of entries queue_own entries_before q made.0 _ (end_move (entries q) (Some p)) made.1 (entries_restored (entries q) p)

@@ -92,12 +92,12 @@ front_entry q d h = take_front q.row.count q.row.places d h (omega (arith, lengt
 
 -- what the front entry says of the entries
 pub front_some_is : (xs : List ℕ) (x : ℕ) → Some x ≡ front_of xs → xs ≡ x ∷ drop 1 xs
-front_some_is [] x e = absurd (let z : ◌≡◌ {A = ℕ} 0 1 = cc in omega arith)
+front_some_is [] x e = cc
 front_some_is (y ∷ xs) x e = let same : y ≡ x = cc in ap (λ (z : ℕ). z ∷ xs) same
 
 pub front_none_is : (xs : List ℕ) → None ≡ front_of xs → xs ≡ []
 front_none_is [] e = refl
-front_none_is (y ∷ xs) e = absurd (let z : ◌≡◌ {A = ℕ} 0 1 = cc in omega arith)
+front_none_is (y ∷ xs) e = cc
 
 -- the answers of FRONT, PUT and NEXT
 front_table : (xs : List ℕ) → entries_after xs Front ≡ (front_of xs, xs)

@@ -52,13 +52,13 @@ smaller_within k (e ∷ es) =
 
 -- a present key stands at its place
 pub found_at : (low k v : ℕ) (es : List Entry) (d : Entry) → rising low es ≡ true → found k es ≡ Some v → (smaller k es < length es) × (slice_index_or es (smaller k es) d ≡ entry k v)
-found_at low k v [] d r f = absurd (let z : ◌≡◌ {A = ℕ} 0 1 = cc in omega arith)
+found_at low k v [] d r f = cc
 found_at low k v (e ∷ es) d r f =
     let p = rising_parts low e es r in
     by_order e.key k
     (λ h l q. let ih = found_at (e.key + 1) k v es d p.3 (rw q at f) in rw l (omega (arith, ih.0), ih.1))
     (λ h l q. let w : Some e.number ≡ Some v = rw q at f in let n : e.number ≡ v = cc in rw l (omega arith, λ i. record { key = h i; number = n i }))
-    (λ h l q. let none = absent_below (e.key + 1) k es p.3 (omega arith) in absurd (let w : found k es ≡ Some v = rw q at f in let z : ◌≡◌ {A = ℕ} 0 1 = cc in omega arith))
+    (λ h l q. let none = absent_below (e.key + 1) k es p.3 (omega arith) in absurd (let w : found k es ≡ Some v = rw q at f in cc))
 
 -- a key that stands at its place is present
 pub key_found : (low k : ℕ) (es : List Entry) (d : Entry) → rising low es ≡ true → smaller k es < length es → (get_or es (smaller k es) d).key ≡ k → found k es ≡ Some (get_or es (smaller k es) d).number
@@ -82,13 +82,13 @@ absent_at low k (e ∷ es) d r a =
 
 -- a present key: setting its number changes the entry at its place
 pub marked_present : (low k v old : ℕ) (es : List Entry) → rising low es ≡ true → found k es ≡ Some old → marked k v es ≡ slice_set es (smaller k es) (entry k v)
-marked_present low k v old [] r f = absurd (let z : ◌≡◌ {A = ℕ} 0 1 = cc in omega arith)
+marked_present low k v old [] r f = cc
 marked_present low k v old (e ∷ es) r f =
     let p = rising_parts low e es r in
     by_order e.key k
     (λ h l q. rw l (ap (λ (xs : List Entry). e ∷ xs) (marked_present (e.key + 1) k v old es p.3 (rw q at f))))
     (λ h l q. rw (l, q))
-    (λ h l q. let none = absent_below (e.key + 1) k es p.3 (omega arith) in absurd (let w : found k es ≡ Some old = rw q at f in let z : ◌≡◌ {A = ℕ} 0 1 = cc in omega arith))
+    (λ h l q. let none = absent_below (e.key + 1) k es p.3 (omega arith) in absurd (let w : found k es ≡ Some old = rw q at f in cc))
 
 -- an absent key is put in at its place
 pub marked_absent : (k v : ℕ) (es : List Entry) → found k es ≡ None → marked k v es ≡ insert es (smaller k es) (entry k v)
@@ -96,18 +96,18 @@ marked_absent k v [] f = refl
 marked_absent k v (e ∷ es) f =
     by_order e.key k
     (λ h l q. rw l (ap (λ (xs : List Entry). e ∷ xs) (marked_absent k v es (rw q at f))))
-    (λ h l q. absurd (let w : Some e.number ≡ None = rw q at f in let z : ◌≡◌ {A = ℕ} 0 1 = cc in omega arith))
+    (λ h l q. absurd (let w : Some e.number ≡ None = rw q at f in cc))
     (λ h l q. rw (l, q))
 
 -- a present key is taken out at its place
 pub without_present : (low k old : ℕ) (es : List Entry) → rising low es ≡ true → found k es ≡ Some old → without k es ≡ remove es (smaller k es)
-without_present low k old [] r f = absurd (let z : ◌≡◌ {A = ℕ} 0 1 = cc in omega arith)
+without_present low k old [] r f = cc
 without_present low k old (e ∷ es) r f =
     let p = rising_parts low e es r in
     by_order e.key k
     (λ h l q. rw (l, q) (ap (λ (xs : List Entry). e ∷ xs) (without_present (e.key + 1) k old es p.3 (rw q at f))))
     (λ h l q. rw (l, q))
-    (λ h l q. let none = absent_below (e.key + 1) k es p.3 (omega arith) in absurd (let w : found k es ≡ Some old = rw q at f in let z : ◌≡◌ {A = ℕ} 0 1 = cc in omega arith))
+    (λ h l q. let none = absent_below (e.key + 1) k es p.3 (omega arith) in absurd (let w : found k es ≡ Some old = rw q at f in cc))
 
 -- taking out an absent key changes nothing
 pub without_absent : (k : ℕ) (es : List Entry) → found k es ≡ None → without k es ≡ es
@@ -115,7 +115,7 @@ without_absent k [] f = refl
 without_absent k (e ∷ es) f =
     by_order e.key k
     (λ h l q. rw q (ap (λ (xs : List Entry). e ∷ xs) (without_absent k es (rw q at f))))
-    (λ h l q. absurd (let w : Some e.number ≡ None = rw q at f in let z : ◌≡◌ {A = ℕ} 0 1 = cc in omega arith))
+    (λ h l q. absurd (let w : Some e.number ≡ None = rw q at f in cc))
     (λ h l q. rw q (ap (λ (xs : List Entry). e ∷ xs) (without_absent k es (rw q at f))))
 
 -- the number of each key once one is set
@@ -155,7 +155,7 @@ without_rises low k (e ∷ es) r =
 
 -- setting a number and then the former one changes nothing
 pub marked_back : (low k v old : ℕ) (es : List Entry) → rising low es ≡ true → found k es ≡ Some old → marked k old (marked k v es) ≡ es
-marked_back low k v old [] r f = absurd (let z : ◌≡◌ {A = ℕ} 0 1 = cc in omega arith)
+marked_back low k v old [] r f = cc
 marked_back low k v old (e ∷ es) r f =
     let p = rising_parts low e es r in
     let l' : ltb k k ≡ false = le-ltb k k (omega arith) in
@@ -163,7 +163,7 @@ marked_back low k v old (e ∷ es) r f =
     by_order e.key k
     (λ h l q. rw (l, l) (ap (λ (xs : List Entry). e ∷ xs) (marked_back (e.key + 1) k v old es p.3 (rw q at f))))
     (λ h l q. let w : Some e.number ≡ Some old = rw q at f in let n : e.number ≡ old = cc in rw (l, q, l', q') (λ i. record { key = sym h i; number = sym n i } ∷ es))
-    (λ h l q. let none = absent_below (e.key + 1) k es p.3 (omega arith) in absurd (let w : found k es ≡ Some old = rw q at f in let z : ◌≡◌ {A = ℕ} 0 1 = cc in omega arith))
+    (λ h l q. let none = absent_below (e.key + 1) k es p.3 (omega arith) in absurd (let w : found k es ≡ Some old = rw q at f in cc))
 
 -- putting a key in and then taking it out changes nothing
 pub without_back : (k v : ℕ) (es : List Entry) → found k es ≡ None → without k (marked k v es) ≡ es
@@ -171,5 +171,5 @@ without_back k v [] f = rw (eq-eqb k k refl)
 without_back k v (e ∷ es) f =
     by_order e.key k
     (λ h l q. rw (l, q) (ap (λ (xs : List Entry). e ∷ xs) (without_back k v es (rw q at f))))
-    (λ h l q. absurd (let w : Some e.number ≡ None = rw q at f in let z : ◌≡◌ {A = ℕ} 0 1 = cc in omega arith))
+    (λ h l q. absurd (let w : Some e.number ≡ None = rw q at f in cc))
     (λ h l q. rw (l, q, eq-eqb k k refl))

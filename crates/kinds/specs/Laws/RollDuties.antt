@@ -29,7 +29,7 @@ find_keeps (Some v) es = refl
 -- a no changes no entries
 mark_keeps : (o : Option ℕ) (k v : ℕ) (es : List Entry) → (mark_after o k v es).0 ≡ None → (mark_after o k v es).1 ≡ es
 mark_keeps None k v es e = grind (arith, nat_tests)
-mark_keeps (Some old) k v es e = absurd (let z : ◌≡◌ {A = ℕ} 0 1 = cc in omega arith)
+mark_keeps (Some old) k v es e = cc
 
 no_keeps : (es : List Entry) (p : RollOperation) → (marks_after es p).0 ≡ None → (marks_after es p).1 ≡ es
 no_keeps es (Find k) e = find_keeps (found k.value es) es
@@ -41,7 +41,7 @@ no_leaves_state r p e = tables.no_leaves roll_of marks roll_own (marks_after (ma
 pub read_leaves_state : (r : Roll) (p : Option RollOperation) → roll_class p ≡ Read → (by_table roll_of (marks_after (marks r)) r p).next ≡ r
 read_leaves_state r None e = refl
 read_leaves_state r (Some (Find k)) e = tables.turned_own roll_of marks roll_own r r _ (sym (find_keeps (found k.value (marks r)) (marks r)))
-read_leaves_state r (Some (Mark k v)) e = absurd (let z : ◌≡◌ {A = ℕ} 0 1 = cc in omega arith)
+read_leaves_state r (Some (Mark k v)) e = cc
 
 -- a MARK leaves at most twelve entries
 mark_few : (k v : ℕ) (es : List Entry) (o : Option ℕ) → found k es ≡ o → rising 0 es ≡ true → length es ≤ room → length (mark_after o k v es).1 ≤ room
@@ -72,8 +72,8 @@ mark_made r k v =
     roll_made (mark_after old k.value v.value es).1 (mark_few k.value v.value es old refl h.2 (omega (arith, marks_length r, h.0))) (mark_rises k.value v.value es old k.in_range v.in_range h.2)
 
 pub undo_leads_back : (r : Roll) (p : Option RollOperation) → roll_class p ≡ Write → let u = (by_table roll_of (marks_after (marks r)) r p).next in turned roll_of u (marks_before (marks u) (former (marks r) p)) ≡ r
-undo_leads_back r None e = absurd (let z : ◌≡◌ {A = ℕ} 0 1 = cc in omega arith)
-undo_leads_back r (Some (Find k)) e = absurd (let z : ◌≡◌ {A = ℕ} 0 1 = cc in omega arith)
+undo_leads_back r None e = cc
+undo_leads_back r (Some (Find k)) e = cc
 undo_leads_back r (Some (Mark k v)) e =
     let es = marks r in
     let made = mark_made r k v in
