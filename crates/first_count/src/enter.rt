@@ -1,5 +1,5 @@
 // One operation entered on one object, and undone again where that is asked.
-ghost use Rattle.std.specs.Prelude.{◌≡◌, slice_get, MatchResult};
+ghost use Rattle.std.specs.Prelude.{◌≡◌, slice_get, MatchResult, OnErr};
 ghost use Rattle.first_count.specs.Entering.{reply_of, state_after, told, objects_after};
 
 use kinds::answer::{Answer, Class};
@@ -74,6 +74,7 @@ pub(crate) fn enter<K: Kind>(objects: &mut [K], entry: Entry) -> Result<Reply, R
     ensures reply { result ≡ told K.classed K.acts «entry» (slice_get objects.old «entry».object) }
     ensures after { let object = slice_get objects.old «entry».object in
         objects.new ≡ objects_after K.acts «entry» object objects.old }
+    ensures err { OnErr result (objects.new ≡ objects.old) }
 {
     let at = entry.object;
     let object = *objects.get(at).ok_or(Refusal::NoObject)?;

@@ -35,17 +35,6 @@ pub(crate) fn opening() -> [Object; 4]
     ]
 }
 
-// An operation by its code and its numbers, which are plainest in a table as they are.
-fn operation(code: u32, first: u32, second: u32) -> Operation
-    ensures { result ≡ record { code = code; first = first; second = second } }
-{
-    Operation {
-        code,
-        first,
-        second,
-    }
-}
-
 // An operation entered on an object.
 fn entered(object: usize, operation: Operation, then: Then) -> Entry
     ensures { result ≡ entry_of object operation then }
@@ -62,24 +51,24 @@ fn entered(object: usize, operation: Operation, then: Then) -> Entry
 // not know.
 pub(crate) fn entries() -> [Entry; 19] {
     [
-        entered(FIRST, operation(ADD, 2_500, 0), Keep),
-        entered(SECOND, operation(ADD, 1_900, 0), Keep),
-        entered(FIRST, operation(TAKE, 100, 0), Keep),
-        entered(SECOND, operation(ADD, 100, 0), Keep),
-        entered(SECOND, operation(TAKE, 5_000, 0), Keep),
-        entered(SECOND, operation(SHOW, 0, 0), Keep),
-        entered(QUEUE, operation(PUT, 17, 0), Keep),
-        entered(QUEUE, operation(PUT, 23, 0), Keep),
-        entered(QUEUE, operation(FRONT, 0, 0), Keep),
-        entered(QUEUE, operation(NEXT, 0, 0), Keep),
-        entered(ROLL, operation(MARK, 118, 1), Keep),
-        entered(ROLL, operation(MARK, 42, 1), Keep),
-        entered(ROLL, operation(MARK, 118, 2), Keep),
-        entered(ROLL, operation(FIND, 118, 0), Keep),
-        entered(ROLL, operation(MARK, 77, 1), Undo),
-        entered(ROLL, operation(FIND, 77, 0), Keep),
-        entered(ROLL, operation(MARK, 42, 9), Undo),
-        entered(ROLL, operation(FIND, 42, 0), Keep),
-        entered(QUEUE, operation(ADD, 50, 0), Keep),
+        entered(FIRST, Operation::new(ADD, 2_500, 0), Keep),
+        entered(SECOND, Operation::new(ADD, 1_900, 0), Keep),
+        entered(FIRST, Operation::new(TAKE, 100, 0), Keep),
+        entered(SECOND, Operation::new(ADD, 100, 0), Keep),
+        entered(SECOND, Operation::new(TAKE, 5_000, 0), Keep),
+        entered(SECOND, Operation::new(SHOW, 0, 0), Keep),
+        entered(QUEUE, Operation::new(PUT, 17, 0), Keep),
+        entered(QUEUE, Operation::new(PUT, 23, 0), Keep),
+        entered(QUEUE, Operation::new(FRONT, 0, 0), Keep),
+        entered(QUEUE, Operation::new(NEXT, 0, 0), Keep),
+        entered(ROLL, Operation::new(MARK, 118, 1), Keep),
+        entered(ROLL, Operation::new(MARK, 42, 1), Keep),
+        entered(ROLL, Operation::new(MARK, 118, 2), Keep),
+        entered(ROLL, Operation::new(FIND, 118, 0), Keep),
+        entered(ROLL, Operation::new(MARK, 77, 1), Undo),
+        entered(ROLL, Operation::new(FIND, 77, 0), Keep),
+        entered(ROLL, Operation::new(MARK, 42, 9), Undo),
+        entered(ROLL, Operation::new(FIND, 42, 0), Keep),
+        entered(QUEUE, Operation::new(ADD, 50, 0), Keep),
     ]
 }

@@ -51,7 +51,8 @@ impl fmt::Display for Closing {
     }
 }
 
-// The word of an operation and the numbers that it uses.
+// The word of an operation and the numbers that it uses. By the code, since words are read and
+// written without regard to the kind of the object.
 impl fmt::Display for Words<Operation> {
     fn fmt<W: fmt::Write>(&self, f: &mut fmt::Formatter<W>) -> fmt::Result {
         let Operation {
@@ -110,7 +111,7 @@ where
     Words<T>: fmt::Display,
 {
     fn fmt<W: fmt::Write>(&self, f: &mut fmt::Formatter<W>) -> fmt::Result {
-        for item in self.0.places.iter().take(self.0.count) {
+        for item in self.0.items() {
             write!(f, " {}", Words(*item))?;
         }
         Ok(())

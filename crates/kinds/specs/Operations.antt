@@ -4,8 +4,7 @@
 -- | ranged  | a number is at most the largest |
 -- | limit   | the most that a number may be |
 -- | fits    | no number is above the largest, and each unused one is 0 |
--- | is      | the code and the numbers fit an operation |
-use Rattle.std.specs.Prelude.{ℕ, Bool, cond, ◌&&◌, ◌==◌, nat_le, nat_lt}
+use Rattle.std.specs.Prelude.{ℕ, Bool, cond, ◌&&◌, nat_le, nat_lt}
 use Rattle.kinds.specs.declared.operation.Operation.{Operation}
 
 -- the largest number in operations and states
@@ -23,7 +22,3 @@ limit used = cond used largest 0
 -- no number is above the largest, and each past the first `count` is 0
 abbrev pub fits : ℕ → Operation → Bool
 fits count o = nat_le o.first (limit (nat_lt 0 count)) && nat_le o.second (limit (nat_lt 1 count))
-
--- the operation of a code that uses `count` numbers
-abbrev pub is : ℕ → ℕ → Operation → Bool
-is code count o = o.code == code && fits count o

@@ -24,15 +24,15 @@ use Rattle.kinds.specs.declared.queue.operation.QueueOperation.TheVariants.{Fron
 use Rattle.kinds.specs.declared.queue.operation.EndMove.{EndMove}
 use Rattle.kinds.specs.declared.queue.operation.EndMove.TheVariants.{Stayed, BackJoined, FrontLeft}
 use Rattle.std.specs.Option.{option_map}
-use Rattle.kinds.specs.Numbers.{number_at}
-use Rattle.kinds.specs.Operations.{is}
+use Rattle.kinds.specs.Numbers.{numbers}
 use Rattle.kinds.specs.QueueRows.{is_queue}
 use Rattle.kinds.specs.Rows.{checked}
 use Rattle.kinds.specs.ShortLists.{room, items, packed}
 
 -- code 12 is FRONT, code 13 PUT n, code 14 NEXT
 abbrev pub queue_operation : Operation → Option QueueOperation
-queue_operation o = cond (is 12 0 o) (Some Front) (cond (is 13 1 o) (option_map Put (number_at o.first)) (cond (is 14 0 o) (Some Next) None))
+queue_operation o =
+    cond (o.code == 12) (option_map (λ n. Front) (numbers 0 o)) (cond (o.code == 13) (option_map (λ n. Put n.0) (numbers 1 o)) (cond (o.code == 14) (option_map (λ n. Next) (numbers 0 o)) None))
 
 -- PUT uses one number
 abbrev pub queue_uses : Queue → ℕ → ℕ

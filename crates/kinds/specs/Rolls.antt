@@ -30,16 +30,15 @@ use Rattle.kinds.specs.declared.roll.operation.RollOperation.{RollOperation}
 use Rattle.kinds.specs.declared.roll.operation.RollOperation.TheVariants.{Find, Mark}
 use Rattle.kinds.specs.declared.roll.state.Roll.{Roll}
 use Rattle.kinds.specs.declared.short_list.ShortList.{ShortList}
-use Rattle.std.specs.Option.{option_map, option_zip}
-use Rattle.kinds.specs.Numbers.{number_at}
-use Rattle.kinds.specs.Operations.{is}
+use Rattle.std.specs.Option.{option_map}
+use Rattle.kinds.specs.Numbers.{numbers}
 use Rattle.kinds.specs.RollRows.{is_roll}
 use Rattle.kinds.specs.Rows.{checked}
 use Rattle.kinds.specs.ShortLists.{room, items, packed}
 
 -- code 21 is FIND k, code 22 MARK k v
 abbrev pub roll_operation : Operation → Option RollOperation
-roll_operation o = cond (is 21 1 o) (option_map Find (number_at o.first)) (cond (is 22 2 o) (option_map (λ q. Mark q.0 q.1) (option_zip (number_at o.first) (number_at o.second))) None)
+roll_operation o = cond (o.code == 21) (option_map (λ n. Find n.0) (numbers 1 o)) (cond (o.code == 22) (option_map (λ n. Mark n.0 n.1) (numbers 2 o)) None)
 
 -- FIND uses one number, MARK two
 abbrev pub roll_uses : Roll → ℕ → ℕ

@@ -20,12 +20,13 @@ use Rattle.kinds.specs.declared.tally.state.Tally.{Tally}
 use Rattle.kinds.specs.declared.tally.operation.TallyOperation.{TallyOperation}
 use Rattle.kinds.specs.declared.tally.operation.TallyOperation.TheVariants.{Show, Add, Take}
 use Rattle.std.specs.Option.{option_map}
-use Rattle.kinds.specs.Numbers.{number_at}
-use Rattle.kinds.specs.Operations.{largest, is}
+use Rattle.kinds.specs.Numbers.{number_at, numbers}
+use Rattle.kinds.specs.Operations.{largest}
 
 -- code 1 is SHOW, code 2 ADD n, code 3 TAKE n
 abbrev pub tally_operation : Operation → Option TallyOperation
-tally_operation o = cond (is 1 0 o) (Some Show) (cond (is 2 1 o) (option_map Add (number_at o.first)) (cond (is 3 1 o) (option_map Take (number_at o.first)) None))
+tally_operation o =
+    cond (o.code == 1) (option_map (λ n. Show) (numbers 0 o)) (cond (o.code == 2) (option_map (λ n. Add n.0) (numbers 1 o)) (cond (o.code == 3) (option_map (λ n. Take n.0) (numbers 1 o)) None))
 
 -- ADD and TAKE use one number
 abbrev pub tally_uses : Tally → ℕ → ℕ

@@ -107,6 +107,7 @@ impl<L: Kind, R: Kind> Kind for Either<L, R> {
         map_both!(self, state => state.row())
     }
 
+    // By closures, as `act`.
     fn from_row(row: Either<L::Row, R::Row>) -> Option<Either<L, R>> {
         match row {
             Either::Left(left) => L::from_row(left).map(|state| Either::Left(state)),

@@ -55,8 +55,8 @@ pub trait Kind: Copy {
     fn undo(self, record: Self::Undo) -> Self
         ensures { result ≡ undone self «record» };
 
-    // This state as a row. Not by `From`, and the way back not by `TryFrom`: the laws need both as
-    // functions of the state and of the row.
+    // This state as a row. Not by `From`, and the way back not by `TryFrom`: generic code learns from
+    // such bounds nothing of how the one undoes the other, which the laws below say.
     fn row(self) -> Self::Row
         ensures { result ≡ rowed self };
 

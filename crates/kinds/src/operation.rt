@@ -1,8 +1,11 @@
 // An operation: a code and two numbers.
 ghost use Rattle.std.specs.Prelude.{◌≡◌};
+ghost use Rattle.kinds.specs.Numbers.{numbers};
 ghost use Rattle.kinds.specs.Operations.{ranged, fits};
 
-use crate::number::AboveLargest;
+use crate::number::Number;
+use std::error::Error;
+use std::fmt;
 
 // The largest number in operations and states.
 pub const LARGEST: u32 = 999_999_999;
@@ -24,22 +27,47 @@ pub struct Operation {
 }
 
 impl Operation {
+    // The operation of a code and two numbers.
+    pub fn new(code: u32, first: u32, second: u32) -> Operation
+        ensures { result ≡ record { code = code; first = first; second = second } }
+    {
+        Operation {
+            code,
+            first,
+            second,
+        }
+    }
+
     // Whether its numbers suit a code that uses the first `count` of them.
-    pub(crate) fn fits(self, count: u32) -> bool
+    fn fits(self, count: u32) -> bool
         ensures { result ≡ fits count self }
     {
         let first = if count > 0 { LARGEST } else { 0 };
         let second = if count > 1 { LARGEST } else { 0 };
         self.first <= first && self.second <= second
     }
+
+    // Its numbers, if they suit a code that uses the first `count` of them.
+    pub(crate) fn numbers(self, count: u32) -> Option<(Number, Number)>
+        ensures { result ≡ numbers count self }
+    {
+        if !self.fits(count) {
+            return None;
+        }
+        let first = Number { value: self.first };
+        let second = Number { value: self.second };
+        Some((first, second))
+    }
 }
 
-// The error of reading an operation that a kind does not know.
+// An operation is not one that a kind knows.
 #[derive(Clone, Copy, PartialEq, Eq, Debug)]
 pub struct UnknownOperation;
 
-impl From<AboveLargest> for UnknownOperation {
-    fn from(_above: AboveLargest) -> UnknownOperation {
-        UnknownOperation
+impl fmt::Display for UnknownOperation {
+    fn fmt<W: fmt::Write>(&self, f: &mut fmt::Formatter<W>) -> fmt::Result {
+        f.write_str("unknown operation")
     }
 }
+
+impl Error for UnknownOperation {}

@@ -36,6 +36,13 @@ engine_number (Store f) = store_number f
 
 -- the layer in which a fault arose
 abbrev pub layer_word : EngineFault → List ℕ
+layer_word NumberOutOfRange = codes "ENGINE"
+layer_word AlreadyOpen = codes "ENGINE"
+layer_word ParentNotOpen = codes "ENGINE"
+layer_word TooManyBegins = codes "ENGINE"
+layer_word NotOpen = codes "ENGINE"
+layer_word OpenChild = codes "ENGINE"
+layer_word Waiting = codes "ENGINE"
+layer_word NoObject = codes "ENGINE"
 layer_word (Kind f) = codes "KIND"
 layer_word (Store f) = codes "STORE"
-layer_word _ = codes "ENGINE"

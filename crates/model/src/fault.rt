@@ -68,7 +68,7 @@ impl EngineFault {
     }
 
     // The word of the layer that refused.
-    // No enum with `Display`: nobody acts by it, and scripts add a layer with a word of its own.
+    // No enum with `Display`: the contract gives the very word, which it could not of what is printed.
     pub fn layer(self) -> &'static str
         ensures { result.now ≡ layer_word self }
     {

@@ -25,6 +25,7 @@ pub trait VictimPolicy: Copy {
 pub struct Youngest;
 
 // Fewer changes go first, then as Youngest decides: by ordinal and number, the changes being equal.
+// Not one function over a key: the two keys differ in type, and a member for it needs a law of its own.
 #[derive(Clone, Copy)]
 pub struct Lightest;
 

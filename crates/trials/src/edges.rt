@@ -18,11 +18,7 @@ struct Case {
 
 impl Case {
     fn new(code: u32, first: u32, second: u32, expected: Option<Answer>) -> Case {
-        let operation = Operation {
-            code,
-            first,
-            second,
-        };
+        let operation = Operation::new(code, first, second);
         Case {
             operation,
             expected,
@@ -30,7 +26,8 @@ impl Case {
     }
 }
 
-// A row of a table has the code and the numbers as they are: an `Operation` in each is no plainer.
+// A row of a table has the code and the numbers as they are: an `Operation` in each is no plainer
+// where there are so many.
 fn yes(code: u32, first: u32, second: u32, number: u32) -> Case {
     Case::new(code, first, second, Some(Some(number)))
 }

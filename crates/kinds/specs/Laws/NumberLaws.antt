@@ -1,9 +1,12 @@
 -- Numbers by their values.
 use Rattle.std.specs.Prelude.{◌≡◌, ℕ, true, false, Some, None, Option}
-use Rattle.std.proofs.Common.{ap, sym, ◌∙◌, arith}
+use Rattle.std.specs.Option.{option_zip}
+use Rattle.std.proofs.Common.{ap, sym, ◌∙◌, ⊎_elim}
+use Rattle.std.proofs.lemmas.Bool.{cases_Bool}
 use Rattle.kinds.specs.declared.number.value.Number.{Number}
-use Rattle.kinds.specs.Operations.{ranged}
-use Rattle.kinds.specs.Numbers.{number_at}
+use Rattle.kinds.specs.declared.operation.Operation.{Operation}
+use Rattle.kinds.specs.Operations.{ranged, fits}
+use Rattle.kinds.specs.Numbers.{number_at, numbers}
 use Rattle.kinds.specs.Laws.Checks.{checked_passes, checked_fails, checked_made}
 
 -- a number is the one made of its value
@@ -24,3 +27,13 @@ pub no_number : (v : ℕ) → None ≡ number_at v → ranged v ≡ true → ⊥
 no_number v e h =
     let both : ◌≡◌ {A = Option Number} None (Some (record { value = v; in_range = h })) = e ∙ checked_passes ranged (λ v e. record { value = v; in_range = e }) v h in
     cc
+
+pub unranged : (v : ℕ) → None ≡ number_at v → ranged v ≡ false
+unranged v e = ⊎_elim (λ t. absurd (no_number v e t)) (λ f. f) (cases_Bool (ranged v))
+
+-- numbers that fit an operation are its two numbers
+pub numbers_fit : (count : ℕ) (o : Operation) (first : ranged o.first ≡ true) (second : ranged o.second ≡ true) → fits count o ≡ true → numbers count o ≡ Some (record { value = o.first; in_range = first }, record { value = o.second; in_range = second })
+numbers_fit count o first second e =
+    let both = ap (λ (p : Option Number). option_zip p (number_at o.second)) (number_own (record { value = o.first; in_range = first })) in
+    let pair = ap (λ (q : Option Number). option_zip (Some (record { value = o.first; in_range = first })) q) (number_own (record { value = o.second; in_range = second })) in
+    rw e (both ∙ pair)

@@ -49,8 +49,8 @@ pub put_in : (q : Queue) (m : ShortList ℕ) (n : Number) → nat_le room q.row.
 put_in q m n h k e = entry_in q m q.row.count n.value (omega arith) (omega (arith, leb-false room q.row.count h)) n.in_range k e
 
 -- a number put at the front
-pub front_in : (q : Queue) (m : ShortList ℕ) (n : ℕ) → nat_le room q.row.count ≡ false → ranged n ≡ true → m.count ≡ q.row.count + 1 → m.places ≡ pushed 0 n q.row.places → (is_queue m ≡ true) × (items m ≡ n ∷ entries q)
-front_in q m n h r k e = entry_in q m 0 n (omega arith) (omega (arith, leb-false room q.row.count h)) r k e
+pub front_in : (q : Queue) (m : ShortList ℕ) (n : Number) → nat_le room q.row.count ≡ false → m.count ≡ q.row.count + 1 → m.places ≡ pushed 0 n.value q.row.places → (is_queue m ≡ true) × (items m ≡ n.value ∷ entries q)
+front_in q m n h k e = entry_in q m 0 n.value (omega arith) (omega (arith, leb-false room q.row.count h)) n.in_range k e
 
 -- an entry taken out
 pub entry_out : (q : Queue) (m : ShortList ℕ) (at : ℕ) → at < q.row.count → m.count ≡ q.row.count - 1 → m.places ≡ pulled at 0 q.row.places → (is_queue m ≡ true) × (items m ≡ remove (entries q) at)

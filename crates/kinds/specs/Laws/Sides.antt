@@ -1,6 +1,5 @@
 -- Rows of a join: one that reads back as an object of a side is a row of that side.
-use Rattle.std.specs.Prelude.{◌≡◌, ℕ, Some, None, Option}
-use Rattle.std.proofs.Common.{arith}
+use Rattle.std.specs.Prelude.{◌≡◌, Some, None, Option}
 use Rattle.std.specs.Option.{option_map}
 use Rattle.either.specs.declared.Either.{Either}
 use Rattle.either.specs.declared.Either.TheVariants.{Left, Right}

@@ -1,4 +1,4 @@
-// The numbers that operations work with, and what an operation that a kind does not know is told.
+// The numbers that operations and states hold.
 mod convert;
 mod value;
 

@@ -3,7 +3,7 @@ ghost use Rattle.std.specs.Prelude.{◌≡◌, true};
 ghost use Rattle.kinds.specs.Operations.{ranged};
 
 // A number from 0 to the largest.
-#[derive(Clone, Copy)]
+#[derive(Clone, Copy, PartialEq, Eq, Debug)]
 pub struct Number {
     pub(crate) value: u32,
     ghost in_range: { ranged value ≡ true },

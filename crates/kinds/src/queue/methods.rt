@@ -1,10 +1,7 @@
 // What is done to a queue.
-ghost use Rattle.std.specs.Prelude.{◌≡◌, ◌<◌, ◌≤◌, true, [], Some, OnSome, nat_le};
-ghost use Rattle.std.specs.List.{list_all};
+ghost use Rattle.std.specs.Prelude.{◌≡◌, ◌<◌, [], Some, OnSome};
 ghost use Rattle.kinds.specs.Outcomes.{turned, left_by};
-ghost use Rattle.kinds.specs.Operations.{ranged};
 ghost use Rattle.kinds.specs.Queues.{queue_of, entries, front_of, entries_after, end_move, entries_before};
-ghost use Rattle.kinds.specs.ShortLists.{room};
 ghost use Rattle.kinds.specs.declared.queue.operation.EndMove.TheVariants.{BackJoined, FrontLeft};
 ghost use Rattle.kinds.specs.declared.queue.operation.QueueOperation.TheVariants.{Front, Put, Next};
 
@@ -12,22 +9,7 @@ use super::operation::EndMove;
 use super::state::Queue;
 use crate::answer::Outcome;
 use crate::number::Number;
-use crate::operation::in_range;
-use crate::short_list::{Item, ShortList};
-
-impl Item for u32 {
-    ghost blank = { 0 };
-
-    ghost good = { list_all ranged };
-
-    fn blank() -> u32 {
-        0
-    }
-
-    fn are_good(numbers: &[u32]) -> bool {
-        numbers.iter().all(|number| in_range(*number))
-    }
-}
+use crate::short_list::ShortList;
 
 impl Queue {
     // The queue without entries.
@@ -84,7 +66,7 @@ impl Queue {
         ensures { result ≡ end_move (entries self) (Some Next) }
     {
         let front = self.front_entry();
-        front.map_or(EndMove::Stayed, |entry| EndMove::FrontLeft(entry))
+        front.map_or(EndMove::Stayed, EndMove::FrontLeft)
     }
 
     // The queue before an entry joined the back.
@@ -102,10 +84,13 @@ impl Queue {
     pub(super) fn with_front(self, n: u32) -> Queue
         ensures { result ≡ turned queue_of self (entries_before (entries self) (FrontLeft n)) }
     {
-        if self.row.is_full() || !in_range(n) {
+        if self.row.is_full() {
             return self;
         }
-        let row = self.row.with_item(0, n);
+        let Ok(number) = Number::try_from(n) else {
+            return self;
+        };
+        let row = self.row.with_item(0, number.value);
         Queue { row }
     }
 }

@@ -1,4 +1,5 @@
 // A queue: up to twelve entries, which join at the back and leave at the front.
+mod entries;
 mod kind;
 mod methods;
 mod operation;

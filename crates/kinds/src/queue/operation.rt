@@ -6,6 +6,7 @@ ghost use Rattle.std.specs.Result.{result_ok};
 use crate::number::Number;
 use crate::operation::{Operation, UnknownOperation};
 
+// The codes by which an `Operation`, which is plain numbers, names them.
 pub const FRONT: u32 = 12;
 
 pub const PUT: u32 = 13;
@@ -13,7 +14,7 @@ pub const PUT: u32 = 13;
 pub const NEXT: u32 = 14;
 
 // FRONT tells the front entry, PUT adds one at the back, NEXT takes the front one out.
-#[derive(Clone, Copy)]
+#[derive(Clone, Copy, PartialEq, Eq, Debug)]
 pub enum QueueOperation {
     Front,
     Put(Number),
@@ -35,11 +36,12 @@ impl TryFrom<Operation> for QueueOperation {
 
     // The operation that a code and its numbers stand for, if a queue knows it.
     fn try_from(operation: Operation) -> Result<QueueOperation, UnknownOperation> {
-        match operation.code {
-            FRONT if operation.fits(0) => Ok(QueueOperation::Front),
-            PUT if operation.fits(1) => Ok(QueueOperation::Put(operation.first.try_into()?)),
-            NEXT if operation.fits(0) => Ok(QueueOperation::Next),
-            _ => Err(UnknownOperation),
-        }
+        let known = match operation.code {
+            FRONT => operation.numbers(0).map(|_| QueueOperation::Front),
+            PUT => operation.numbers(1).map(|(n, _)| QueueOperation::Put(n)),
+            NEXT => operation.numbers(0).map(|_| QueueOperation::Next),
+            _ => None,
+        };
+        known.ok_or(UnknownOperation)
     }
 }

@@ -1,9 +1,7 @@
 // Which entries are a roll's.
-ghost use Rattle.std.specs.Prelude.{◌≡◌, ◌<◌, ◌≤◌, true, [], slice_set};
-ghost use Rattle.std.specs.List.{insert, remove};
+ghost use Rattle.std.specs.Prelude.{◌≡◌};
 ghost use Rattle.kinds.specs.RollRows.{suits, rising};
 ghost use Rattle.kinds.specs.Rolls.{entry};
-ghost use Rattle.kinds.specs.ShortLists.{room};
 
 use super::entry::Entry;
 use crate::operation::in_range;

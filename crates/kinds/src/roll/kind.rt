@@ -75,7 +75,7 @@ impl Kind for Roll {
     fn undo_record(self, operation: Operation) -> Former {
         let key = match RollOperation::try_from(operation) {
             Err(UnknownOperation) => 0,
-            Ok(RollOperation::Find(key) | RollOperation::Mark(key, _)) => key.into(),
+            Ok(RollOperation::Find(key) | RollOperation::Mark(key, _)) => key.value,
         };
         let number = self.number_of(key);
         Former { key, number }

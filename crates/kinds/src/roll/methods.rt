@@ -1,9 +1,8 @@
 // What is done to a roll.
-ghost use Rattle.std.specs.Prelude.{◌≡◌, ℕ, ◌<◌, ◌≤◌, [], MatchResult, nat_le};
+ghost use Rattle.std.specs.Prelude.{◌≡◌, ℕ, ◌<◌, ◌≤◌, [], MatchResult};
 ghost use Rattle.kinds.specs.Outcomes.{turned, left_by};
 ghost use Rattle.kinds.specs.RollPlaces.{place_of};
 ghost use Rattle.kinds.specs.Rolls.{roll_of, marks, found, marked, without, marks_after, numbers_after};
-ghost use Rattle.kinds.specs.ShortLists.{room};
 ghost use Rattle.kinds.specs.declared.roll.operation.RollOperation.TheVariants.{Find, Mark};
 
 use super::entry::Entry;

@@ -6,12 +6,13 @@ ghost use Rattle.std.specs.Result.{result_ok};
 use crate::number::Number;
 use crate::operation::{Operation, UnknownOperation};
 
+// The codes by which an `Operation`, which is plain numbers, names them.
 pub const FIND: u32 = 21;
 
 pub const MARK: u32 = 22;
 
 // FIND tells the number of a key, MARK sets it.
-#[derive(Clone, Copy)]
+#[derive(Clone, Copy, PartialEq, Eq, Debug)]
 pub enum RollOperation {
     Find(Number),
     Mark(Number, Number),
@@ -24,13 +25,15 @@ impl TryFrom<Operation> for RollOperation {
 
     // The operation that a code and its numbers stand for, if a roll knows it.
     fn try_from(operation: Operation) -> Result<RollOperation, UnknownOperation> {
-        match operation.code {
-            FIND if operation.fits(1) => Ok(RollOperation::Find(operation.first.try_into()?)),
-            MARK if operation.fits(2) => Ok(RollOperation::Mark(
-                operation.first.try_into()?,
-                operation.second.try_into()?,
-            )),
-            _ => Err(UnknownOperation),
-        }
+        let known = match operation.code {
+            FIND => operation
+                .numbers(1)
+                .map(|(key, _)| RollOperation::Find(key)),
+            MARK => operation
+                .numbers(2)
+                .map(|(key, number)| RollOperation::Mark(key, number)),
+            _ => None,
+        };
+        known.ok_or(UnknownOperation)
     }
 }

@@ -33,6 +33,16 @@ fn are_blank<T: Item>(places: &[T]) -> bool
     places.iter().all(|place| *place == T::blank())
 }
 
+impl<T> ShortList<T> {
+    // The items.
+    pub fn items(&self) -> &[T]
+        ensures { result.now ≡ items self.now }
+    {
+        let places = self.places.as_slice();
+        &places[..self.count.min(places.len())]
+    }
+}
+
 // That a place lies in the list is asked for, as the library's `insert` and `remove` ask: it is a
 // relation of two arguments, and no fact of one that a type could hold.
 impl<T: Item> ShortList<T> {
@@ -51,14 +61,6 @@ impl<T: Item> ShortList<T> {
         ensures { result ≡ packs (λ x. T.eq x T.blank) self.now }
     {
         self.places.get(self.count..).is_some_and(are_blank)
-    }
-
-    // The items of a list.
-    pub(crate) fn items(&self) -> &[T]
-        requires { self.now.count ≤ room }
-        ensures { result.now ≡ items self.now }
-    {
-        &self.places[..self.count]
     }
 
     // Whether this is a state's row.

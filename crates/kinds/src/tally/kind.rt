@@ -66,8 +66,8 @@ impl Kind for Tally {
         match TallyOperation::try_from(operation) {
             Err(UnknownOperation) => Outcome::no(self),
             Ok(TallyOperation::Show) => self.show(),
-            Ok(TallyOperation::Add(n)) => self.add(n.into()),
-            Ok(TallyOperation::Take(n)) => self.take(n.into()),
+            Ok(TallyOperation::Add(n)) => self.add(n.value),
+            Ok(TallyOperation::Take(n)) => self.take(n.value),
         }
     }
 

@@ -6,6 +6,7 @@ ghost use Rattle.std.specs.Result.{result_ok};
 use crate::number::Number;
 use crate::operation::{Operation, UnknownOperation};
 
+// The codes by which an `Operation`, which is plain numbers, names them.
 pub const SHOW: u32 = 1;
 
 pub const ADD: u32 = 2;
@@ -13,7 +14,7 @@ pub const ADD: u32 = 2;
 pub const TAKE: u32 = 3;
 
 // SHOW tells the value, ADD and TAKE change it by their number.
-#[derive(Clone, Copy)]
+#[derive(Clone, Copy, PartialEq, Eq, Debug)]
 pub enum TallyOperation {
     Show,
     Add(Number),
@@ -27,11 +28,12 @@ impl TryFrom<Operation> for TallyOperation {
 
     // The operation that a code and its numbers stand for, if a tally knows it.
     fn try_from(operation: Operation) -> Result<TallyOperation, UnknownOperation> {
-        match operation.code {
-            SHOW if operation.fits(0) => Ok(TallyOperation::Show),
-            ADD if operation.fits(1) => Ok(TallyOperation::Add(operation.first.try_into()?)),
-            TAKE if operation.fits(1) => Ok(TallyOperation::Take(operation.first.try_into()?)),
-            _ => Err(UnknownOperation),
-        }
+        let known = match operation.code {
+            SHOW => operation.numbers(0).map(|_| TallyOperation::Show),
+            ADD => operation.numbers(1).map(|(n, _)| TallyOperation::Add(n)),
+            TAKE => operation.numbers(1).map(|(n, _)| TallyOperation::Take(n)),
+            _ => None,
+        };
+        known.ok_or(UnknownOperation)
     }
 }

@@ -58,9 +58,9 @@ pub has_append : (u : ℕ) (us vs : List ℕ) → has u (us ++ vs) ≡ (has u us
 has_append u = list_any-append (eqb u)
 
 -- among n numbers from k on are those from k to below k + n
-has_from : (n k u : ℕ) → has u (range_with_len k n) ≡ (leb k u && ltb u (k + n))
-has_from zero k u = grind (arith, nat_tests)
-has_from (suc n) k u = rw (has_from n (k + 1) u) (grind (arith, nat_tests))
+has_range : (n k u : ℕ) → has u (range_with_len k n) ≡ (leb k u && ltb u (k + n))
+has_range zero k u = grind (arith, nat_tests)
+has_range (suc n) k u = rw (has_range n (k + 1) u) (grind (arith, nat_tests))
 
 pub has_numbers : (n u : ℕ) → has u (numbers n) ≡ numbered n u
-has_numbers n u = rw (has_from n 1 u) (grind (arith, nat_tests))
+has_numbers n u = rw (has_range n 1 u) (grind (arith, nat_tests))
