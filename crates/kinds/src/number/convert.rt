@@ -5,20 +5,10 @@ ghost use Rattle.kinds.specs.Numbers.{number_at};
 
 use super::value::Number;
 use crate::operation::in_range;
-use std::error::Error;
-use std::fmt;
 
 // A value is above the largest number.
 #[derive(Clone, Copy, PartialEq, Eq, Debug)]
 pub struct AboveLargest;
-
-impl fmt::Display for AboveLargest {
-    fn fmt<W: fmt::Write>(&self, f: &mut fmt::Formatter<W>) -> fmt::Result {
-        f.write_str("above the largest number")
-    }
-}
-
-impl Error for AboveLargest {}
 
 impl TryFrom<u32> for Number {
     type Error = AboveLargest;
