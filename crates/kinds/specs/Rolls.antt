@@ -8,7 +8,7 @@
 -- | found          | the number of a key |
 -- | marked         | the entries with a key's number set |
 -- | without        | the entries without a key |
--- | find-after, mark-after | what FIND and MARK answer, and the entries after them |
+-- | find_after, mark_after | what FIND and MARK answer, and the entries after them |
 -- | marks_after    | what an operation answers, and the entries after it |
 -- | numbers_after  | the number of each key after a MARK |
 -- | read_roll      | the roll of a row |

@@ -55,8 +55,8 @@ pub trait Kind: Copy {
     fn undo(self, record: Self::Undo) -> Self
         ensures { result ≡ undone self «record» };
 
-    // This state as a row. Not by `From`, and the way back not by `TryFrom`: generic code learns from
-    // such bounds nothing of how the one undoes the other, which the laws below say.
+    // This state as a row. Not by `From`, and the way back not by `TryFrom`: the laws below would have
+    // to go by the relations of those traits, which is no plainer than by two functions.
     fn row(self) -> Self::Row
         ensures { result ≡ rowed self };
 

@@ -1,9 +1,11 @@
 // An operation: a code and two numbers.
-ghost use Rattle.std.specs.Prelude.{◌≡◌};
+ghost use Rattle.std.specs.Prelude.{◌≡◌, Some, codes};
 ghost use Rattle.kinds.specs.Numbers.{numbers};
 ghost use Rattle.kinds.specs.Operations.{ranged, fits};
 
 use crate::number::Number;
+use std::error::Error;
+use std::fmt;
 
 // The largest number in operations and states.
 pub const LARGEST: u32 = 999_999_999;
@@ -61,3 +63,13 @@ impl Operation {
 // An operation is not one that a kind knows.
 #[derive(Clone, Copy, PartialEq, Eq, Debug)]
 pub struct UnknownOperation;
+
+impl fmt::Display for UnknownOperation {
+    ghost output = { λ _. Some (codes "unknown operation") };
+
+    fn fmt<W: fmt::Write>(&self, f: &mut fmt::Formatter<W>) -> fmt::Result {
+        f.write_str("unknown operation")
+    }
+}
+
+impl Error for UnknownOperation {}

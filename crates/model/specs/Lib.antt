@@ -1,6 +1,7 @@
 pub mod Checks
 pub mod Deadlocks
 pub mod Examples
+pub mod FaultTexts
 pub mod Faults
 pub mod Histories
 pub mod Model

@@ -4,20 +4,20 @@ ghost use Rattle.model.specs.Faults.{kind_number, store_number, engine_number, l
 ghost use Rattle.model.specs.declared.fault.EngineFault.TheVariants.{Kind as InKind, Store as InStore};
 
 // A kind refuses an operation.
-#[derive(Clone, Copy, PartialEq, Eq, Hash, Debug)]
+#[derive(Clone, Copy, PartialEq, Eq, Debug)]
 pub enum KindFault {
     Unknown,
     NotARead,
 }
 
 // A store refuses a change.
-#[derive(Clone, Copy, PartialEq, Eq, Hash, Debug)]
+#[derive(Clone, Copy, PartialEq, Eq, Debug)]
 pub enum StoreFault {
     Full,
 }
 
 // The engine refuses a call, or passes on what refused it.
-#[derive(Clone, Copy, PartialEq, Eq, Hash, Debug)]
+#[derive(Clone, Copy, PartialEq, Eq, Debug)]
 pub enum EngineFault {
     NumberOutOfRange,
     AlreadyOpen,
@@ -68,7 +68,8 @@ impl EngineFault {
     }
 
     // The word of the layer that refused.
-    // No enum with `Display`: the contract gives the very word, which it could not of what is printed.
+    // A word and no enum with `Display`: crates above have layers of their own, which an enum here
+    // could not hold.
     pub fn layer(self) -> &'static str
         ensures { result.now ≡ layer_word self }
     {

@@ -5,6 +5,7 @@ pub mod call;
 pub mod every_run;
 pub mod facts;
 pub mod fault;
+mod fault_text;
 pub mod lock;
 pub mod policy;
 pub mod reply;

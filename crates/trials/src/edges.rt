@@ -1,6 +1,6 @@
 // The edges of each kind: operations in order, with the answers that they must get.
 use either::Either;
-use kinds::answer::{Answer, Class};
+use kinds::answer::Class;
 use kinds::join::Object;
 use kinds::kind::Kind;
 use kinds::operation::{LARGEST, Operation};
@@ -9,15 +9,22 @@ use kinds::roll::{FIND, MARK, Roll};
 use kinds::tally::{ADD, SHOW, TAKE, Tally};
 use std::process::Abort;
 
-// An operation, and its answer; none where the object must not know it.
+// What must come of an operation.
+#[derive(Clone, Copy)]
+enum Expected {
+    Unknown,
+    No,
+    Yes(u32),
+}
+
 #[derive(Clone, Copy)]
 struct Case {
     operation: Operation,
-    expected: Option<Answer>,
+    expected: Expected,
 }
 
 impl Case {
-    fn new(code: u32, first: u32, second: u32, expected: Option<Answer>) -> Case {
+    fn new(code: u32, first: u32, second: u32, expected: Expected) -> Case {
         let operation = Operation::new(code, first, second);
         Case {
             operation,
@@ -29,24 +36,28 @@ impl Case {
 // A row of a table has the code and the numbers as they are: an `Operation` in each is no plainer
 // where there are so many.
 fn yes(code: u32, first: u32, second: u32, number: u32) -> Case {
-    Case::new(code, first, second, Some(Some(number)))
+    Case::new(code, first, second, Expected::Yes(number))
 }
 
 fn no(code: u32, first: u32, second: u32) -> Case {
-    Case::new(code, first, second, Some(None))
+    Case::new(code, first, second, Expected::No)
 }
 
 fn unknown(code: u32, first: u32, second: u32) -> Case {
-    Case::new(code, first, second, None)
+    Case::new(code, first, second, Expected::Unknown)
 }
 
 // One case. A write is done, undone and done again, so that an undo that does not restore shows later on.
 fn perform<K: Kind>(rt: &impl Abort, state: K, case: Case) -> K {
     let operation = case.operation;
     let class = state.class(operation);
-    let Some(expected) = case.expected else {
-        assert_eq!(rt; class, Class::Unknown, "must be unknown");
-        return state;
+    let expected = match case.expected {
+        Expected::Unknown => {
+            assert_eq!(rt; class, Class::Unknown, "must be unknown");
+            return state;
+        }
+        Expected::No => None,
+        Expected::Yes(number) => Some(number),
     };
     assert_ne!(rt; class, Class::Unknown, "must be known");
     let done = state.act(operation);

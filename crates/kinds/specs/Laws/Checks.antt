@@ -27,7 +27,7 @@ module _ {R S : Type 0} (test : R → Bool) (make : (r : R) → test r ≡ true 
 
   passing_made : (r : R) (s : S) (b : Bool) (e : test r ≡ b) → passing test make r b e ≡ Some s → (k : test r ≡ true) × (make r k ≡ s)
   passing_made r s true e m = (e, cc)
-  passing_made r s false e m = let z : ◌≡◌ {A = Bool} true false = cc in absurd (both_ways true z refl)
+  passing_made r s false e m = cc
 
   -- what is made has passed
   pub checked_made : (r : R) (s : S) → checked test make r ≡ Some s → (k : test r ≡ true) × (make r k ≡ s)

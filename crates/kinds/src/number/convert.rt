@@ -1,14 +1,26 @@
 // Numbers from and to plain ones.
-ghost use Rattle.std.specs.Prelude.{◌≡◌};
+ghost use Rattle.std.specs.Prelude.{◌≡◌, Some, codes};
 ghost use Rattle.std.specs.Result.{result_ok};
 ghost use Rattle.kinds.specs.Numbers.{number_at};
 
 use super::value::Number;
 use crate::operation::in_range;
+use std::error::Error;
+use std::fmt;
 
 // A value is above the largest number.
 #[derive(Clone, Copy, PartialEq, Eq, Debug)]
 pub struct AboveLargest;
+
+impl fmt::Display for AboveLargest {
+    ghost output = { λ _. Some (codes "above the largest number") };
+
+    fn fmt<W: fmt::Write>(&self, f: &mut fmt::Formatter<W>) -> fmt::Result {
+        f.write_str("above the largest number")
+    }
+}
+
+impl Error for AboveLargest {}
 
 impl TryFrom<u32> for Number {
     type Error = AboveLargest;

@@ -1,4 +1,4 @@
-// A number from 0 to the largest.
+// The type of numbers in range.
 ghost use Rattle.std.specs.Prelude.{◌≡◌, true};
 ghost use Rattle.kinds.specs.Operations.{ranged};
 

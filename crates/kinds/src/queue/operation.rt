@@ -22,7 +22,7 @@ pub enum QueueOperation {
 }
 
 // What a write moved: nothing, an entry to the back, or this entry from the front.
-#[derive(Clone, Copy)]
+#[derive(Clone, Copy, PartialEq, Eq, Debug)]
 pub enum EndMove {
     Stayed,
     BackJoined,

@@ -8,7 +8,7 @@ pub struct Entry {
 }
 
 // What undoes a mark: a key with the number that it had, if it was present.
-#[derive(Clone, Copy)]
+#[derive(Clone, Copy, Debug, PartialEq, Eq)]
 pub struct Former {
     pub key: u32,
     pub number: Option<u32>,

@@ -50,7 +50,8 @@ impl Roll {
         }
     }
 
-    // The number of a key set, and the key put in if it was absent, unless there are twelve.
+    // The number of a key set, and the key put in if it was absent, unless there are twelve. Two
+    // `Number`s, and no `Entry`, whose numbers may be any.
     pub(super) fn mark(self, key: Number, number: Number) -> Outcome<Roll>
         ensures outcome { result ≡ left_by roll_of self (marks_after (marks self) (Mark key number)) }
         ensures finds { (j : ℕ) → found j (marks result.next) ≡ numbers_after result.answer key.value number.value (marks self) j }

@@ -44,7 +44,8 @@ impl<T> ShortList<T> {
 }
 
 // That a place lies in the list is asked for, as the library's `insert` and `remove` ask: it is a
-// relation of two arguments, and no fact of one that a type could hold.
+// relation of two arguments, and no fact of one that a type could hold. That there is room, and that
+// no more is counted than there are places, is asked once each.
 impl<T: Item> ShortList<T> {
     // The list without items.
     pub(crate) fn empty() -> ShortList<T>
