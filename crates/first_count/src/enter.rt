@@ -1,5 +1,6 @@
 // One operation entered on one object, and undone again where that is asked.
-ghost use Rattle.std.specs.Prelude.{◌≡◌, slice_get, MatchResult, OnErr};
+ghost use Rattle.std.specs.Prelude.{◌≡◌, slice_get, Some, MatchResult, OnErr};
+ghost use Rattle.first_count.specs.Telling.{refusal_text};
 ghost use Rattle.first_count.specs.Entering.{reply_of, state_after, told, objects_after};
 
 use kinds::answer::{Answer, Class};
@@ -38,6 +39,8 @@ pub enum Refusal {
 }
 
 impl fmt::Display for Refusal {
+    ghost output = { λ refusal. Some (refusal_text refusal) };
+
     fn fmt<W: fmt::Write>(&self, f: &mut fmt::Formatter<W>) -> fmt::Result {
         match self {
             Refusal::NoObject => write!(f, "no such object"),

@@ -1,4 +1,7 @@
 // Entries, replies and closing states in script words.
+ghost use Rattle.std.specs.Prelude.{Some};
+ghost use Rattle.first_count.specs.Telling.{answer_text, reply_text};
+
 use crate::enter::{Entry, Refusal, Reply};
 use either::Either;
 use kinds::answer::Answer;
@@ -75,6 +78,8 @@ impl fmt::Display for Words<Operation> {
 }
 
 impl fmt::Display for Words<Answer> {
+    ghost output = { λ answer. Some (answer_text answer.0) };
+
     fn fmt<W: fmt::Write>(&self, f: &mut fmt::Formatter<W>) -> fmt::Result {
         match self.0 {
             Some(number) => write!(f, "yes {number}"),
@@ -84,6 +89,8 @@ impl fmt::Display for Words<Answer> {
 }
 
 impl fmt::Display for Reply {
+    ghost output = { λ reply. Some (reply_text reply) };
+
     fn fmt<W: fmt::Write>(&self, f: &mut fmt::Formatter<W>) -> fmt::Result {
         match *self {
             Reply::Answered(answer) => write!(f, "{}", Words(answer)),
