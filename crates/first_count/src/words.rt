@@ -1,6 +1,6 @@
 // Entries, replies and closing states in script words.
 ghost use Rattle.std.specs.Prelude.{Some};
-ghost use Rattle.first_count.specs.Telling.{answer_text, reply_text};
+ghost use Rattle.first_count.specs.Telling.{operation_text, answer_text, reply_text, line_text};
 
 use crate::enter::{Entry, Refusal, Reply};
 use either::Either;
@@ -33,6 +33,8 @@ pub struct Closing {
 struct Words<T>(T);
 
 impl fmt::Display for Line {
+    ghost output = { λ line. Some (line_text line.entry line.reply) };
+
     fn fmt<W: fmt::Write>(&self, f: &mut fmt::Formatter<W>) -> fmt::Result {
         let operation = Words(self.entry.operation);
         write!(f, "{} {operation}: ", self.entry.object)?;
@@ -57,6 +59,8 @@ impl fmt::Display for Closing {
 // The word of an operation and the numbers that it uses. By the code, since words are read and
 // written without regard to the kind of the object.
 impl fmt::Display for Words<Operation> {
+    ghost output = { λ operation. Some (operation_text operation.0) };
+
     fn fmt<W: fmt::Write>(&self, f: &mut fmt::Formatter<W>) -> fmt::Result {
         let Operation {
             code,
