@@ -1,30 +1,45 @@
--- Keys rise where each is below the next.
-use Rattle.std.proofs.Common.{◌≡◌, ℕ, suc, ◌+◌, ◌<◌, ◌≤◌, Bool, true, false, ◌&&◌, ltb, List, [], ◌∷◌, length, refl, sym, ⊎_elim, arith, Bor}
+-- Keys rise where each entry leads to the next.
+use Rattle.std.proofs.Common.{◌≡◌, ℕ, zero, suc, ◌+◌, ◌<◌, Bool, true, false, ◌&&◌, List, [], ◌∷◌, length, get_or, slice_get, Some, refl, sym, ap, subst, ◌∙◌, arith, Bor}
 use Rattle.std.specs.Fn.{Called, ComputesOnPairs}
-use Rattle.std.specs.List.{AllAdjacentBelow, IsAllAdjacentAnswer, list_all}
-use Rattle.std.proofs.lemmas.Bool.{le-leb, ltb-true, ltb-false, cases_Bool}
+use Rattle.std.specs.List.{AllAdjacentBelow, IsAllAdjacentAnswer}
 use Rattle.std.proofs.lemmas.List.Sorted.{answers_always}
 use denote.Param.Members.{Mut}
-use native.Mathlib.Numerals.{add-one, unary_clauses}
 use Rattle.kinds.specs.declared.roll.entry.Entry.{Entry}
 use Rattle.kinds.specs.RollRows.{suits, rising}
 use Rattle.kinds.specs.Rolls.{entry}
-use Rattle.kinds.proofs.RollSearch.{key_at, keys_rise}
 
--- where each key is below the next, the numbers decide
-climbing : (low : ℕ) (es : List Entry) → AllAdjacentBelow (λ x y. true ≡ ltb x.key y.key) es (length es) → (0 < length es → low ≤ key_at es 0) → rising low es ≡ list_all (suits 0) es
-climbing low [] up from = refl
-climbing low (e ∷ es) up from =
-    let next = climbing (e.key + 1) es (λ i d h. rw add-one (simp unary_clauses at (up (suc i) d (omega arith)))) (λ h. omega (arith, ltb-true e.key (key_at es 0) (sym (up 0 (entry 0 0) (omega arith))))) in
-    rw (le-leb low e.key (from (omega arith)), le-leb 0 e.key (omega arith), next)
+and_true : (a : Bool) → (a && true) ≡ a
+and_true true = refl
+and_true false = refl
 
--- what the test of neighbours tells
-climbs_or_not : (es : List Entry) (r : Bool) → IsAllAdjacentAnswer (λ x y b. b ≡ ltb x.key y.key) es r → rising 0 es ≡ (r && list_all (suits 0) es)
-climbs_or_not es true up = climbing 0 es up (λ h. omega arith)
-climbs_or_not es false (i, h, down) =
-    let falls = ltb-false (key_at es i) (key_at es (i + 1)) (sym (down (entry 0 0))) in
-    ⊎_elim (λ t. absurd (omega (arith, keys_rise 0 es i (i + 1) t (omega arith) h))) (λ f. f) (cases_Bool (rising 0 es))
+and_false : (a : Bool) → (a && false) ≡ false
+and_false true = refl
+and_false false = refl
 
--- the same by the clause of `is_sorted_by`, where each call compares two keys
-pub rising_by : {F : Type 0} {g : Mut F (Bor Entry × (Bor Entry × Unit {0})) Bool} {f : F} (es : List Entry) (r : Bool) → ((e : Entry → Entry → Bool) → ComputesOnPairs g e f → IsAllAdjacentAnswer (λ x y b. b ≡ e x y) es r) → ((f : F) (a : Bor Entry × (Bor Entry × Unit {0})) (b : Bool) (f' : F) → Called g f a b f' → b ≡ ltb a.0.now.key a.1.0.now.key) → rising 0 es ≡ (r && list_all (suits 0) es)
-rising_by es r clause compares = climbs_or_not es r (clause (λ x y. ltb x.key y.key) (answers_always _ _ _ compares))
+-- where each entry leads to the next, the first decides
+climbing : (low : ℕ) (e : Entry) (es : List Entry) → AllAdjacentBelow (λ x y. true ≡ suits (x.key + 1) y) (e ∷ es) (length (e ∷ es)) → rising low (e ∷ es) ≡ suits low e
+climbing low e [] up = and_true (suits low e)
+climbing low e (f ∷ es) up =
+    let moved : (i : ℕ) → suc i + 1 ≡ suc (i + 1) = λ i. omega arith in
+    let next = climbing (e.key + 1) f es (λ i d h. subst (λ (j : ℕ). true ≡ suits ((get_or (f ∷ es) i d).key + 1) (get_or (e ∷ f ∷ es) j d)) (moved i) (up (suc i) d (omega arith))) in
+    let here : true ≡ suits (e.key + 1) f = up 0 (entry 0 0) (omega arith) in
+    ap (λ (b : Bool). suits low e && b) (next ∙ sym here) ∙ and_true (suits low e)
+
+-- where one does not, they do not rise
+falling : (low : ℕ) (es : List Entry) (i : ℕ) → suc i < length es → suits ((get_or es i (entry 0 0)).key + 1) (get_or es (suc i) (entry 0 0)) ≡ false → rising low es ≡ false
+falling low [] i h down = absurd (omega arith)
+falling low (e ∷ []) i h down = absurd (omega arith)
+falling low (e ∷ f ∷ es) zero h down = ap (λ (b : Bool). suits low e && (b && rising (f.key + 1) es)) down ∙ and_false (suits low e)
+falling low (e ∷ f ∷ es) (suc i) h down = ap (λ (b : Bool). suits low e && b) (falling (e.key + 1) (f ∷ es) i (omega arith) down) ∙ and_false (suits low e)
+
+-- what the test of neighbours tells, where the first entry is in range
+climbs_or_not : (es : List Entry) (r : Bool) → ((e : Entry) → slice_get es 0 ≡ Some e → suits 0 e ≡ true) → IsAllAdjacentAnswer (λ x y b. b ≡ suits (x.key + 1) y) es r → r ≡ rising 0 es
+climbs_or_not [] true first up = refl
+climbs_or_not (e ∷ es) true first up = sym (climbing 0 e es up ∙ first e refl)
+climbs_or_not es false first (i, h, down) =
+    let moved : i + 1 ≡ suc i = omega arith in
+    sym (falling 0 es i (omega arith) (sym (subst (λ (j : ℕ). false ≡ suits ((get_or es i (entry 0 0)).key + 1) (get_or es j (entry 0 0))) moved (down (entry 0 0)))))
+
+-- the same by the clause of `is_sorted_by`, where each call tests two entries
+pub rising_by : {F : Type 0} {g : Mut F (Bor Entry × (Bor Entry × Unit {0})) Bool} {f : F} (es : List Entry) (r : Bool) → ((e : Entry) → slice_get es 0 ≡ Some e → suits 0 e ≡ true) → ((e : Entry → Entry → Bool) → ComputesOnPairs g e f → IsAllAdjacentAnswer (λ x y b. b ≡ e x y) es r) → ((f : F) (a : Bor Entry × (Bor Entry × Unit {0})) (b : Bool) (f' : F) → Called g f a b f' → b ≡ suits (a.0.now.key + 1) a.1.0.now) → r ≡ rising 0 es
+rising_by es r first clause leads = climbs_or_not es r first (clause (λ x y. suits (x.key + 1) y) (answers_always _ _ _ leads))

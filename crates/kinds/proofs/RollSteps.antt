@@ -5,15 +5,13 @@ use Rattle.std.proofs.lemmas.List.{get_or-take}
 use Rattle.std.proofs.lemmas.Bool.{lt-ltb, le-ltb, ltb-false, leb-true, leb-false, cases_Bool}
 use Rattle.std.proofs.lemmas.List.Edits.{length-insert}
 use Rattle.kinds.specs.declared.answer.Outcome.{Outcome}
-use Rattle.kinds.specs.declared.number.value.Number.{Number}
 use Rattle.kinds.specs.declared.roll.entry.Entry.{Entry}
 use Rattle.kinds.specs.declared.roll.state.Roll.{Roll}
-use Rattle.kinds.specs.declared.roll.operation.RollOperation.TheVariants.{Find, Mark}
 use Rattle.kinds.specs.Operations.{ranged}
 use Rattle.kinds.specs.Outcomes.{yes_to, no_to, turned, left_by}
 use Rattle.kinds.specs.RollRows.{rising}
 use Rattle.kinds.specs.RollPlaces.{smaller, placed, place_of}
-use Rattle.kinds.specs.Rolls.{entry, marks, found, marked, without, find_after, mark_after, marks_after, numbers_after, roll_of}
+use Rattle.kinds.specs.Rolls.{entry, marks, found, marked, without, find_after, mark_after, numbers_after, roll_of}
 use Rattle.kinds.specs.ShortLists.{room}
 use Rattle.kinds.specs.Laws.Rising
 use Rattle.kinds.specs.Laws.RollLaws.{roll_held, marks_length, left_own, turned_into, unmade}
@@ -39,7 +37,7 @@ number_at r k at d h e =
     ap (λ (x : Entry). Some x.number) (mark_at r at d h ∙ ap (λ (i : ℕ). get_or (marks r) i d) p.2 ∙ there.1) ∙ sym p.1
 
 -- FIND
-pub find_answers : (r : Roll) (k : Number) (o : Option ℕ) → o ≡ found k.value (marks r) → left_by roll_of r (marks_after (marks r) (Find k)) ≡ record { answer = o; next = r }
+pub find_answers : (r : Roll) (k : ℕ) (o : Option ℕ) → o ≡ found k (marks r) → left_by roll_of r (find_after (found k (marks r)) (marks r)) ≡ record { answer = o; next = r }
 find_answers r k None e = ap (λ (o : Option ℕ). left_by roll_of r (find_after o (marks r))) (sym e) ∙ left_own r r None (marks r) refl
 find_answers r k (Some v) e = ap (λ (o : Option ℕ). left_by roll_of r (find_after o (marks r))) (sym e) ∙ left_own r r (Some v) (marks r) refl
 
@@ -68,36 +66,36 @@ module _ (r : Roll) (k at : ℕ) (e : Err at ≡ place_of k (marks r)) where
   out_absent = turned_into r r (without k (marks r)) (sym (Rising.without_absent k (marks r) absent.0))
 
 -- MARK of a present key
-module _ (r : Roll) (k v : Number) (at : ℕ) (e : Ok at ≡ place_of k.value (marks r)) where
-  pub set_there : set (marks r) at (entry k.value v.value) ≡ marked k.value v.value (marks r)
+module _ (r : Roll) (k v at : ℕ) (e : Ok at ≡ place_of k (marks r)) where
+  pub set_there : set (marks r) at (entry k v) ≡ marked k v (marks r)
   set_there =
-      let here = present r k.value at e in
-      ap (λ (i : ℕ). set (marks r) i (entry k.value v.value)) here.2 ∙ sym (Rising.marked_present 0 k.value v.value here.0 (marks r) (roll_held r).2 here.1)
+      let here = present r k at e in
+      ap (λ (i : ℕ). set (marks r) i (entry k v)) here.2 ∙ sym (Rising.marked_present 0 k v here.0 (marks r) (roll_held r).2 here.1)
 
-  pub set_rises : rising 0 (set (marks r) at (entry k.value v.value)) ≡ true
-  set_rises = ap (rising 0) set_there ∙ Rising.marked_rises 0 k.value v.value (marks r) (omega arith) k.in_range v.in_range (roll_held r).2
+  pub set_rises : ranged k ≡ true → ranged v ≡ true → rising 0 (set (marks r) at (entry k v)) ≡ true
+  set_rises rk rv = ap (rising 0) set_there ∙ Rising.marked_rises 0 k v (marks r) (omega arith) rk rv (roll_held r).2
 
-  pub mark_present : (q : Roll) (n : ℕ) (d : Entry) → at < r.row.count → n ≡ (get_or r.row.places at d).number → marks q ≡ set (marks r) at (entry k.value v.value) → left_by roll_of r (marks_after (marks r) (Mark k v)) ≡ yes_to n q
+  pub mark_present : (q : Roll) (n : ℕ) (d : Entry) → at < r.row.count → n ≡ (get_or r.row.places at d).number → marks q ≡ set (marks r) at (entry k v) → left_by roll_of r (mark_after (found k (marks r)) k v (marks r)) ≡ yes_to n q
   mark_present q n d h told f =
-      ap (λ (o : Option ℕ). left_by roll_of r (mark_after o k.value v.value (marks r))) (sym (ap (λ (i : ℕ). Some i) told ∙ number_at r k.value at d h e)) ∙ left_own r q (Some n) (marked k.value v.value (marks r)) (f ∙ set_there)
+      ap (λ (o : Option ℕ). left_by roll_of r (mark_after o k v (marks r))) (sym (ap (λ (i : ℕ). Some i) told ∙ number_at r k at d h e)) ∙ left_own r q (Some n) (marked k v (marks r)) (f ∙ set_there)
 
 -- MARK of an absent key
-module _ (r : Roll) (k v : Number) (at : ℕ) (e : Err at ≡ place_of k.value (marks r)) where
-  pub in_there : insert (marks r) at (entry k.value v.value) ≡ marked k.value v.value (marks r)
+module _ (r : Roll) (k v at : ℕ) (e : Err at ≡ place_of k (marks r)) where
+  pub in_there : insert (marks r) at (entry k v) ≡ marked k v (marks r)
   in_there =
-      let gone = absent r k.value at e in
-      ap (λ (i : ℕ). insert (marks r) i (entry k.value v.value)) gone.1 ∙ sym (Rising.marked_absent k.value v.value (marks r) gone.0)
+      let gone = absent r k at e in
+      ap (λ (i : ℕ). insert (marks r) i (entry k v)) gone.1 ∙ sym (Rising.marked_absent k v (marks r) gone.0)
 
-  pub in_rises : rising 0 (insert (marks r) at (entry k.value v.value)) ≡ true
-  in_rises = ap (rising 0) in_there ∙ Rising.marked_rises 0 k.value v.value (marks r) (omega arith) k.in_range v.in_range (roll_held r).2
+  pub in_rises : ranged k ≡ true → ranged v ≡ true → rising 0 (insert (marks r) at (entry k v)) ≡ true
+  in_rises rk rv = ap (rising 0) in_there ∙ Rising.marked_rises 0 k v (marks r) (omega arith) rk rv (roll_held r).2
 
-  pub mark_absent : (q : Roll) → leb room r.row.count ≡ false → marks q ≡ insert (marks r) at (entry k.value v.value) → left_by roll_of r (marks_after (marks r) (Mark k v)) ≡ yes_to 0 q
+  pub mark_absent : (q : Roll) → leb room r.row.count ≡ false → marks q ≡ insert (marks r) at (entry k v) → left_by roll_of r (mark_after (found k (marks r)) k v (marks r)) ≡ yes_to 0 q
   mark_absent q h f =
-      ap (λ (o : Option ℕ). left_by roll_of r (mark_after o k.value v.value (marks r))) (absent r k.value at e).0 ∙ rw (lt-ltb (length (marks r)) room (omega (arith, marks_length r, leb-false room r.row.count h))) (left_own r q (Some 0) (marked k.value v.value (marks r)) (f ∙ in_there))
+      ap (λ (o : Option ℕ). left_by roll_of r (mark_after o k v (marks r))) (absent r k at e).0 ∙ rw (lt-ltb (length (marks r)) room (omega (arith, marks_length r, leb-false room r.row.count h))) (left_own r q (Some 0) (marked k v (marks r)) (f ∙ in_there))
 
-  pub mark_full : leb room r.row.count ≡ true → left_by roll_of r (marks_after (marks r) (Mark k v)) ≡ no_to r
+  pub mark_full : leb room r.row.count ≡ true → left_by roll_of r (mark_after (found k (marks r)) k v (marks r)) ≡ no_to r
   mark_full h =
-      ap (λ (o : Option ℕ). left_by roll_of r (mark_after o k.value v.value (marks r))) (absent r k.value at e).0 ∙ rw (le-ltb (length (marks r)) room (omega (arith, marks_length r, leb-true room r.row.count h))) (left_own r r None (marks r) refl)
+      ap (λ (o : Option ℕ). left_by roll_of r (mark_after o k v (marks r))) (absent r k at e).0 ∙ rw (le-ltb (length (marks r)) room (omega (arith, marks_length r, leb-true room r.row.count h))) (left_own r r None (marks r) refl)
 
 -- MARK leaves the roll of the entries with the number set, where there is one
 mark_next_by : (r : Roll) (k v : ℕ) (o : Option ℕ) → found k (marks r) ≡ o → (left_by roll_of r (mark_after o k v (marks r))).next ≡ turned roll_of r (marked k v (marks r))
@@ -107,8 +105,8 @@ mark_next_by r k v None e =
     (λ f. rw f (sym (turned_into r r (marks r) refl) ∙ unmade r (marked k v (marks r)) (λ few _. omega (arith, ltb-false (length (marks r)) room f, ap (λ (es : List Entry). length es) (Rising.marked_absent k v (marks r) e), length-insert (marks r) (smaller k (marks r)) (entry k v) (Rising.smaller_within k (marks r))))))
     (cases_Bool (ltb (length (marks r)) room))
 
-pub mark_next : (r : Roll) (k v : Number) → (left_by roll_of r (marks_after (marks r) (Mark k v))).next ≡ turned roll_of r (marked k.value v.value (marks r))
-mark_next r k v = mark_next_by r k.value v.value (found k.value (marks r)) refl
+pub mark_next : (r : Roll) (k v : ℕ) → (left_by roll_of r (mark_after (found k (marks r)) k v (marks r))).next ≡ turned roll_of r (marked k v (marks r))
+mark_next r k v = mark_next_by r k v (found k (marks r)) refl
 
 -- the number of each key after a MARK that was answered yes, and after one that was answered no
 pub yes_finds : (r q : Roll) (k v n : ℕ) (x : Outcome Roll) → x ≡ yes_to n q → marks q ≡ marked k v (marks r) → (j : ℕ) → found j (marks x.next) ≡ numbers_after x.answer k v (marks r) j

@@ -5,6 +5,7 @@
 -- | queue_class     | what an operation is to a queue |
 -- | entries         | the entries of a queue, from the front |
 -- | front_of        | the front entry |
+-- | joined          | what one entry more answers, and the entries after it |
 -- | entries_after   | what an operation answers, and the entries after it |
 -- | read_queue      | the queue of a row |
 -- | queue_of        | the queue of some entries |
@@ -54,11 +55,15 @@ abbrev pub front_of : List ℕ → Option ℕ
 front_of [] = None
 front_of (x ∷ xs) = Some x
 
+-- some entries with one more at the back: yes with how many there are, or no where there are twelve
+abbrev pub joined : List ℕ → ℕ → Answer × List ℕ
+joined xs n = cond (nat_lt (length xs) room) (Some (length xs + 1), xs ++ n ∷ []) (None, xs)
+
 -- what an operation answers, and the entries after it
 abbrev pub entries_after : List ℕ → QueueOperation → Answer × List ℕ
 entries_after [] Front = (None, [])
 entries_after (x ∷ xs) Front = (Some x, x ∷ xs)
-entries_after xs (Put n) = cond (nat_lt (length xs) room) (Some (length xs + 1), xs ++ n.value ∷ []) (None, xs)
+entries_after xs (Put n) = joined xs n.value
 entries_after [] Next = (None, [])
 entries_after (x ∷ xs) Next = (Some x, xs)
 

@@ -1,11 +1,11 @@
 -- Numbers by their values.
-use Rattle.std.specs.Prelude.{◌≡◌, ℕ, true, false, Some, None, Option}
+use Rattle.std.specs.Prelude.{◌≡◌, ℕ, true, false, Some, None, Option, nat_le, nat_lt}
 use Rattle.std.specs.Option.{option_zip}
 use Rattle.std.proofs.Common.{ap, sym, ◌∙◌, ⊎_elim}
-use Rattle.std.proofs.lemmas.Bool.{cases_Bool}
+use Rattle.std.proofs.lemmas.Bool.{and_parts, cases_Bool}
 use Rattle.kinds.specs.declared.number.value.Number.{Number}
 use Rattle.kinds.specs.declared.operation.Operation.{Operation}
-use Rattle.kinds.specs.Operations.{ranged, fits}
+use Rattle.kinds.specs.Operations.{limit, ranged, fits}
 use Rattle.kinds.specs.Numbers.{number_at, numbers}
 use Rattle.kinds.specs.Laws.Checks.{checked_passes, checked_fails, checked_made}
 
@@ -37,3 +37,11 @@ numbers_fit count o first second e =
     let both = ap (λ (p : Option Number). option_zip p (number_at o.second)) (number_own (record { value = o.first; in_range = first })) in
     let pair = ap (λ (q : Option Number). option_zip (Some (record { value = o.first; in_range = first })) q) (number_own (record { value = o.second; in_range = second })) in
     rw e (both ∙ pair)
+
+-- each number that fits is at most its limit: the largest, or 0 where it is unused
+module _ (count : ℕ) (o : Operation) (e : fits count o ≡ true) where
+  pub fits_first : nat_le o.first (limit (nat_lt 0 count)) ≡ true
+  fits_first = (and_parts _ _ e).0
+
+  pub fits_second : nat_le o.second (limit (nat_lt 1 count)) ≡ true
+  fits_second = (and_parts _ _ e).1

@@ -11,9 +11,9 @@ use Rattle.kinds.specs.declared.number.value.Number.{Number}
 use Rattle.kinds.specs.declared.queue.state.Queue.{Queue}
 use Rattle.kinds.specs.QueueRows.{blank_number, is_queue}
 use Rattle.kinds.specs.Operations.{ranged}
-use Rattle.kinds.specs.Queues.{entries, front_of, entries_after, entries_before, read_queue, queue_of}
+use Rattle.kinds.specs.Queues.{entries, front_of, joined, entries_after, entries_before, read_queue, queue_of}
 use Rattle.kinds.specs.ShortLists.{room, items, packed, pushed, pulled}
-use Rattle.kinds.specs.declared.queue.operation.QueueOperation.TheVariants.{Front, Put, Next}
+use Rattle.kinds.specs.declared.queue.operation.QueueOperation.TheVariants.{Front, Next}
 use Rattle.kinds.specs.declared.queue.operation.EndMove.TheVariants.{BackJoined, FrontLeft}
 use Rattle.kinds.specs.Laws.Alls.{all_inserted, all_removed}
 use Rattle.kinds.specs.Laws.Checks.{checked_passes, checked_fails, checked_made}
@@ -107,14 +107,14 @@ front_table (x ∷ xs) = refl
 pub front_answers : (q : Queue) (a : Answer) → a ≡ front_of (entries q) → left_by queue_of q (entries_after (entries q) Front) ≡ record { answer = a; next = q }
 front_answers q a e = ap (left_by queue_of q) (front_table (entries q)) ∙ left_own q q (front_of (entries q)) (entries q) refl ∙ ap (λ (b : Answer). record { answer = b; next = q }) (sym e)
 
-pub put_none : (q : Queue) (n : Number) → nat_le room q.row.count ≡ true → left_by queue_of q (entries_after (entries q) (Put n)) ≡ no_to q
+pub put_none : (q : Queue) (n : ℕ) → nat_le room q.row.count ≡ true → left_by queue_of q (joined (entries q) n) ≡ no_to q
 put_none q n h = rw (le-ltb (length (entries q)) room (omega (arith, entries_length q, leb-true room q.row.count h))) (left_own q q None (entries q) refl)
 
-pub put_some : (q p : Queue) (n : Number) (count : ℕ) → nat_le room q.row.count ≡ false → count ≡ q.row.count + 1 → entries p ≡ insert (entries q) q.row.count n.value → left_by queue_of q (entries_after (entries q) (Put n)) ≡ yes_to count p
+pub put_some : (q p : Queue) (n count : ℕ) → nat_le room q.row.count ≡ false → count ≡ q.row.count + 1 → entries p ≡ insert (entries q) q.row.count n → left_by queue_of q (joined (entries q) n) ≡ yes_to count p
 put_some q p n count h c e =
     let k = entries_length q in
-    let f : entries p ≡ entries q ++ n.value ∷ [] = e ∙ ap (λ (i : ℕ). insert (entries q) i n.value) (sym k) ∙ inserted_end (entries q) n.value in
-    rw (lt-ltb (length (entries q)) room (omega (arith, leb-false room q.row.count h))) (left_own q p (Some (length (entries q) + 1)) (entries q ++ n.value ∷ []) f ∙ ap (λ (m : ℕ). yes_to m p) (omega (arith, k, c)))
+    let f : entries p ≡ entries q ++ n ∷ [] = e ∙ ap (λ (i : ℕ). insert (entries q) i n) (sym k) ∙ inserted_end (entries q) n in
+    rw (lt-ltb (length (entries q)) room (omega (arith, leb-false room q.row.count h))) (left_own q p (Some (length (entries q) + 1)) (entries q ++ n ∷ []) f ∙ ap (λ (m : ℕ). yes_to m p) (omega (arith, k, c)))
 
 pub next_none : (q : Queue) → entries q ≡ [] → left_by queue_of q (entries_after (entries q) Next) ≡ no_to q
 next_none q e = ap (λ (es : List ℕ). left_by queue_of q (entries_after es Next)) e ∙ left_own q q None [] e

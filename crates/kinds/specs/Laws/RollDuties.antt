@@ -12,7 +12,7 @@ use Rattle.kinds.specs.declared.roll.operation.RollOperation.{RollOperation}
 use Rattle.kinds.specs.declared.roll.operation.RollOperation.TheVariants.{Find, Mark}
 use Rattle.kinds.specs.declared.roll.state.Roll.{Roll}
 use Rattle.kinds.specs.Operations.{ranged}
-use Rattle.kinds.specs.Outcomes.{turned, content_after, by_table}
+use Rattle.kinds.specs.Outcomes.{turned, left_by, content_after, by_table}
 use Rattle.kinds.specs.RollRows.{rising}
 use Rattle.kinds.specs.RollPlaces.{smaller}
 use Rattle.kinds.specs.Rolls.{entry, marks, found, find_after, mark_after, marks_after, marks_before, put_back, former, roll_class, roll_of}
@@ -26,10 +26,22 @@ find_keeps : (o : Option ℕ) (es : List Entry) → (find_after o es).1 ≡ es
 find_keeps None es = refl
 find_keeps (Some v) es = refl
 
+-- and no roll, whatever the key
+pub find_leaves : (r : Roll) (k : ℕ) → (left_by roll_of r (find_after (found k (marks r)) (marks r))).next ≡ r
+find_leaves r k = tables.turned_own roll_of marks roll_own r r _ (sym (find_keeps (found k (marks r)) (marks r)))
+
+pub find_left : (r : Roll) (k : ℕ) (x : Outcome Roll) → x ≡ left_by roll_of r (find_after (found k (marks r)) (marks r)) → marks x.next ≡ (find_after (found k (marks r)) (marks r)).1
+find_left r k x e =
+    ap (λ (y : Outcome Roll). marks y.next) e ∙ tables.left_content roll_of marks roll_own r r (find_after (found k (marks r)) (marks r)) (sym (find_keeps (found k (marks r)) (marks r)))
+
 -- a no changes no entries
 mark_keeps : (o : Option ℕ) (k v : ℕ) (es : List Entry) → (mark_after o k v es).0 ≡ None → (mark_after o k v es).1 ≡ es
 mark_keeps None k v es e = grind (arith, nat_tests)
 mark_keeps (Some old) k v es e = cc
+
+-- and no roll, whatever the key and the number
+pub mark_leaves : (r : Roll) (k v : ℕ) → (mark_after (found k (marks r)) k v (marks r)).0 ≡ None → (left_by roll_of r (mark_after (found k (marks r)) k v (marks r))).next ≡ r
+mark_leaves r k v e = tables.turned_own roll_of marks roll_own r r _ (sym (mark_keeps (found k (marks r)) k v (marks r) e))
 
 no_keeps : (es : List Entry) (p : RollOperation) → (marks_after es p).0 ≡ None → (marks_after es p).1 ≡ es
 no_keeps es (Find k) e = find_keeps (found k.value es) es
@@ -40,7 +52,7 @@ no_leaves_state r p e = tables.no_leaves roll_of marks roll_own (marks_after (ma
 
 pub read_leaves_state : (r : Roll) (p : Option RollOperation) → roll_class p ≡ Read → (by_table roll_of (marks_after (marks r)) r p).next ≡ r
 read_leaves_state r None e = refl
-read_leaves_state r (Some (Find k)) e = tables.turned_own roll_of marks roll_own r r _ (sym (find_keeps (found k.value (marks r)) (marks r)))
+read_leaves_state r (Some (Find k)) e = find_leaves r k.value
 read_leaves_state r (Some (Mark k v)) e = cc
 
 -- a MARK leaves at most twelve entries
@@ -82,8 +94,7 @@ undo_leads_back r (Some (Mark k v)) e =
 -- the entries after an operation are the table's
 pub marks_left : (r : Roll) (p : Option RollOperation) (x : Outcome Roll) → x ≡ by_table roll_of (marks_after (marks r)) r p → marks x.next ≡ content_after marks_after (marks r) p
 marks_left r None x e = ap (λ (y : Outcome Roll). marks y.next) e
-marks_left r (Some (Find k)) x e =
-    ap (λ (y : Outcome Roll). marks y.next) e ∙ tables.left_content roll_of marks roll_own r r (marks_after (marks r) (Find k)) (sym (find_keeps (found k.value (marks r)) (marks r)))
+marks_left r (Some (Find k)) x e = find_left r k.value x e
 marks_left r (Some (Mark k v)) x e =
     let made = mark_made r k v in
     ap (λ (y : Outcome Roll). marks y.next) e ∙ tables.left_content roll_of marks roll_own r made.0 (marks_after (marks r) (Mark k v)) made.1

@@ -1,5 +1,5 @@
 // Which entries are a roll's.
-ghost use Rattle.std.specs.Prelude.{◌≡◌};
+ghost use Rattle.std.specs.Prelude.{◌≡◌, ◌+◌};
 ghost use Rattle.kinds.specs.RollRows.{suits, rising};
 ghost use Rattle.kinds.specs.Rolls.{entry};
 
@@ -14,6 +14,13 @@ impl Entry {
     {
         in_range(self.key) && in_range(self.number)
     }
+
+    // Whether another may come right after it: one with a larger key, and in range.
+    fn leads_to(self, next: Entry) -> bool
+        ensures { result ≡ suits (self.key + 1) next }
+    {
+        self.key < next.key && next.is_ranged()
+    }
 }
 
 impl Item for Entry {
@@ -25,8 +32,9 @@ impl Item for Entry {
         Entry { key: 0, number: 0 }
     }
 
+    // The first entry comes after none, so it is tested alone; each other one with the one before it.
     fn are_good(entries: &[Entry]) -> bool {
-        entries.is_sorted_by(|left, right| left.key < right.key)
-            && entries.iter().all(|entry| entry.is_ranged())
+        entries.first().is_none_or(|first| first.is_ranged())
+            && entries.is_sorted_by(|left, right| left.leads_to(*right))
     }
 }

@@ -93,6 +93,8 @@ impl Kind for Roll {
         self.row
     }
 
+    // That no other row reads is left to the tactic, so that a test that lets one pass is refused for it.
+    #[tactic(auto, using(crate::specs::Laws::RollLaws::unread))]
     fn from_row(row: ShortList<Entry>) -> Option<Roll> {
         if row.is_sound() {
             Some(Roll { row })

@@ -79,43 +79,36 @@ impl<T: Item> ShortList<T> {
     }
 
     // An item put in at a place.
-    pub(crate) fn with_item(self, at: usize, item: T) -> ShortList<T>
+    pub(crate) fn with_item(mut self, at: usize, item: T) -> ShortList<T>
         requires within { at ≤ self.count }
         requires few { self.count < room }
         ensures count { result.count ≡ self.count + 1 }
         ensures places { result.places ≡ pushed at item self.places }
     {
-        let ShortList { count, mut places } = self;
-        push_in(&mut places, at, item);
-        ShortList {
-            count: count + 1,
-            places,
-        }
+        push_in(&mut self.places, at, item);
+        self.count += 1;
+        self
     }
 
     // Another item at a place.
-    pub(crate) fn with_other(self, at: usize, item: T) -> ShortList<T>
+    pub(crate) fn with_other(mut self, at: usize, item: T) -> ShortList<T>
         requires { at < length self.places }
         ensures count { result.count ≡ self.count }
         ensures places { result.places ≡ slice_set self.places at item }
     {
-        let ShortList { count, mut places } = self;
-        places[at] = item;
-        ShortList { count, places }
+        self.places[at] = item;
+        self
     }
 
     // The item at a place taken out.
-    pub(crate) fn without_item(self, at: usize) -> ShortList<T>
+    pub(crate) fn without_item(mut self, at: usize) -> ShortList<T>
         requires within { at < self.count }
         requires few { self.count ≤ room }
         ensures count { result.count ≡ self.count - 1 }
         ensures places { result.places ≡ pulled at T.blank self.places }
     {
-        let ShortList { count, mut places } = self;
-        pull_out(&mut places, at);
-        ShortList {
-            count: count - 1,
-            places,
-        }
+        pull_out(&mut self.places, at);
+        self.count -= 1;
+        self
     }
 }

@@ -15,8 +15,8 @@ impl Tally {
     pub fn new(value: u32) -> Option<Tally>
         ensures { result ≡ tally_at value }
     {
-        let number = Number::try_from(value).ok()?;
-        Some(Tally { number })
+        let number = Number::try_from(value).ok();
+        number.map(|number| Tally { number })
     }
 
     // Whether the value can grow by n.
@@ -42,7 +42,8 @@ impl Tally {
 
     // The value grown by n, unless that is above the largest number.
     pub(super) fn add(self, n: u32) -> Outcome<Tally>
-        ensures { result ≡ left_by tally_at self (grown (value_of self) n) }
+        ensures outcome { result ≡ left_by tally_at self (grown (value_of self) n) }
+        ensures after { value_of result.next ≡ (grown (value_of self) n).1 }
     {
         if !self.has_room(n) {
             return Outcome::no(self);
@@ -54,7 +55,8 @@ impl Tally {
 
     // The value less n, unless n is more.
     pub(super) fn take(self, n: u32) -> Outcome<Tally>
-        ensures { result ≡ left_by tally_at self (lessened (value_of self) n) }
+        ensures outcome { result ≡ left_by tally_at self (lessened (value_of self) n) }
+        ensures after { value_of result.next ≡ (lessened (value_of self) n).1 }
     {
         if !self.covers(n) {
             return Outcome::no(self);

@@ -12,7 +12,7 @@ returns c =
     let r = c.args.self in
     let key = c.in-Ok.key in
     let number = c.in-Ok-try_from.number in
-    ap (λ (o : Outcome Roll). o.next) c.mark.ensures.outcome ∙ mark_next r key number
+    ap (λ (o : Outcome Roll). o.next) c.mark.ensures.outcome ∙ mark_next r key.value number.value
     ∙ ap (λ (k : ℕ). turned roll_of r (marked k number.value (marks r))) (number_value key c.args.entry.key (sym c.in-Ok.ensures))
     ∙ ap (λ (v : ℕ). turned roll_of r (marked c.args.entry.key v (marks r))) (number_value number c.args.entry.number (sym c.in-Ok-try_from.ensures))
 
