@@ -2,35 +2,28 @@
 use Rattle.std.proofs.Common.{◌≡◌, ℕ, zero, suc, ◌+◌, ◌<◌, Bool, true, false, ◌&&◌, List, [], ◌∷◌, length, get_or, slice_get, Some, refl, sym, ap, subst, ◌∙◌, arith, Bor}
 use Rattle.std.specs.Fn.{Called, ComputesOnPairs}
 use Rattle.std.specs.List.{AllAdjacentBelow, IsAllAdjacentAnswer}
+use Rattle.std.proofs.Math.Bool.{and-true, and-false}
 use Rattle.std.proofs.lemmas.List.Sorted.{answers_always}
 use denote.Param.Members.{Mut}
 use Rattle.kinds.specs.declared.roll.entry.Entry.{Entry}
 use Rattle.kinds.specs.RollRows.{suits, rising}
 use Rattle.kinds.specs.Rolls.{entry}
 
-and_true : (a : Bool) → (a && true) ≡ a
-and_true true = refl
-and_true false = refl
-
-and_false : (a : Bool) → (a && false) ≡ false
-and_false true = refl
-and_false false = refl
-
 -- where each entry leads to the next, the first decides
 climbing : (low : ℕ) (e : Entry) (es : List Entry) → AllAdjacentBelow (λ x y. true ≡ suits (x.key + 1) y) (e ∷ es) (length (e ∷ es)) → rising low (e ∷ es) ≡ suits low e
-climbing low e [] up = and_true (suits low e)
+climbing low e [] up = and-true (suits low e)
 climbing low e (f ∷ es) up =
     let moved : (i : ℕ) → suc i + 1 ≡ suc (i + 1) = λ i. omega arith in
     let next = climbing (e.key + 1) f es (λ i d h. subst (λ (j : ℕ). true ≡ suits ((get_or (f ∷ es) i d).key + 1) (get_or (e ∷ f ∷ es) j d)) (moved i) (up (suc i) d (omega arith))) in
     let here : true ≡ suits (e.key + 1) f = up 0 (entry 0 0) (omega arith) in
-    ap (λ (b : Bool). suits low e && b) (next ∙ sym here) ∙ and_true (suits low e)
+    ap (λ (b : Bool). suits low e && b) (next ∙ sym here) ∙ and-true (suits low e)
 
 -- where one does not, they do not rise
 falling : (low : ℕ) (es : List Entry) (i : ℕ) → suc i < length es → suits ((get_or es i (entry 0 0)).key + 1) (get_or es (suc i) (entry 0 0)) ≡ false → rising low es ≡ false
 falling low [] i h down = absurd (omega arith)
 falling low (e ∷ []) i h down = absurd (omega arith)
-falling low (e ∷ f ∷ es) zero h down = ap (λ (b : Bool). suits low e && (b && rising (f.key + 1) es)) down ∙ and_false (suits low e)
-falling low (e ∷ f ∷ es) (suc i) h down = ap (λ (b : Bool). suits low e && b) (falling (e.key + 1) (f ∷ es) i (omega arith) down) ∙ and_false (suits low e)
+falling low (e ∷ f ∷ es) zero h down = ap (λ (b : Bool). suits low e && (b && rising (f.key + 1) es)) down ∙ and-false (suits low e)
+falling low (e ∷ f ∷ es) (suc i) h down = ap (λ (b : Bool). suits low e && b) (falling (e.key + 1) (f ∷ es) i (omega arith) down) ∙ and-false (suits low e)
 
 -- what the test of neighbours tells, where the first entry is in range
 climbs_or_not : (es : List Entry) (r : Bool) → ((e : Entry) → slice_get es 0 ≡ Some e → suits 0 e ≡ true) → IsAllAdjacentAnswer (λ x y b. b ≡ suits (x.key + 1) y) es r → r ≡ rising 0 es
